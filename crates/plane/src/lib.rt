@@ -1,0 +1,1 @@
+// Exact geometry of the plane of level against head: its definitions stand in specs/.
