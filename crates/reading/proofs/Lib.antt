@@ -1,2 +1,3 @@
 pub mod Itself
+pub mod Making
 pub mod Range
