@@ -4,3 +4,4 @@ pub mod dipped;
 pub mod kind;
 pub mod logged;
 pub mod made;
+mod made_dipped;
