@@ -56,7 +56,7 @@ fn changed(heap: Global, book: &[u8], changes: &[(usize, u8)]) -> Result<Vec<u8>
     Ok(bytes)
 }
 
-pub fn refusal_of(bytes: &[u8]) -> Result<(u8, usize, &'static str), Fail> {
+pub(crate) fn refusal_of(bytes: &[u8]) -> Result<(u8, usize, &'static str), Fail> {
     match Book::read(bytes) {
         Ok(_) => Err(Fail::new("the book is taken")),
         Err(refusal) => {

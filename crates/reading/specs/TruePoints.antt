@@ -1,5 +1,5 @@
 -- The true points that a reading stands for.
-use mathlib.Core.Bool.{Bool, true, false}
+use mathlib.Core.Bool.{true, false}
 use Prim.Native.Nat.{ℕ, _*_, _^_}
 use lib.IntN.{ℤ, pos, negℤ, _+ℤ_, _-ℤ_}
 use lib.Ieee.{Float, nan, inf, fin, up, down}
