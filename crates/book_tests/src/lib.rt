@@ -1,4 +1,6 @@
 // Tests of the readings and of the yearbook reader, at their limits and on small books.
+#![tactic(auto)]
+
 #[cfg(test)]
 mod books;
 #[cfg(test)]

@@ -1,4 +1,6 @@
 // Compares the quick judge's binary64 with the same operations in whole numbers, on a fixed set of triples.
+#![tactic(auto)]
+
 mod asked;
 mod limits;
 mod report;

@@ -1,4 +1,6 @@
 // Judges: which side of a line a reading lies on, said only where it is certain.
+#![tactic(auto)]
+
 pub mod centre;
 pub mod corner;
 pub mod judge;

@@ -1,4 +1,6 @@
 // Lists what a book on standard input holds, record by record, or prints why it is refused.
+#![tactic(auto)]
+
 use lines::listing::listing;
 use std::io;
 use std::io::Read;

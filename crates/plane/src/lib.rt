@@ -1,1 +1,2 @@
 // Exact geometry of the plane of level against head: its definitions stand in specs/.
+#![tactic(auto)]

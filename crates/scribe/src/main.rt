@@ -1,4 +1,6 @@
 // Writes the book that a listing on standard input tells of, or says which line it can't take.
+#![tactic(auto)]
+
 mod book;
 mod fault;
 mod fields;

@@ -1,4 +1,6 @@
 // Follows worked readings through the library, call by call, and prints each question and each answer.
+#![tactic(auto)]
+
 mod dips;
 mod logs;
 

@@ -1,4 +1,6 @@
 // Readings worked through by hand, as rows of one list, and that every row holds of the definitions.
+#![tactic(auto)]
+
 ghost use Rattle.std.specs.Prelude.{◌≡◌, length};
 ghost use Rattle.std.specs.List.{AllByRecursion as All};
 ghost use Rattle.worked.specs.Rows.{Holds, rows};
