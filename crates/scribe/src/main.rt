@@ -11,6 +11,7 @@ mod quoted;
 use anyhow::anyhow;
 use book::book_of;
 use std::io::{Read, Write};
+use std::process::ExitCode;
 
 // More than the listing of any book has.
 const MOST_INPUT: usize = 1_048_576;
@@ -28,10 +29,13 @@ fn run(rt: &HostRuntime) -> anyhow::Result<()> {
     Ok(())
 }
 
-fn main(rt: HostRuntime) -> anyhow::Result<()> {
-    let result = run(&rt);
-    if let Err(error) = &result {
-        eprintln!(rt; "{error}")?;
+// What is wrong is told in one line, so no error is handed to the runtime, which would tell it again.
+fn main(rt: HostRuntime) -> anyhow::Result<ExitCode> {
+    match run(&rt) {
+        Ok(()) => Ok(ExitCode::SUCCESS),
+        Err(error) => {
+            eprintln!(rt; "{error}")?;
+            Ok(ExitCode::FAILURE)
+        }
     }
-    result
 }
