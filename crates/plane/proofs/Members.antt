@@ -1,16 +1,16 @@
 -- Members of lists, and what holds of them all.
 use Rattle.std.proofs.Common.{ℕ, ◌⊎◌, List, [], ◌∷◌, ◌++◌, sym, refl, subst, inl, inr, ⊎_elim, append_assoc, append-nil}
-use Rattle.std.specs.List.{AllByRecursion as All}
+use Rattle.std.specs.List.{AllByRecursion}
 use Rattle.plane.specs.Rings.{In}
 use Rattle.plane.proofs.Polygons.{Distinct}
 
 module _ {X : Type 0} where
-  pub all_in : (P : X → Type 0) (xs : List X) → All P xs → (x : X) → In x xs → P x
+  pub all_in : (P : X → Type 0) (xs : List X) → AllByRecursion P xs → (x : X) → In x xs → P x
   all_in P [] h x i = absurd i
   all_in P (y ∷ ys) h x (inl e) = rw e h.0
   all_in P (y ∷ ys) h x (inr i) = all_in P ys h.1 x i
 
-  pub all_from_in : (P : X → Type 0) (xs : List X) → ((x : X) → In x xs → P x) → All P xs
+  pub all_from_in : (P : X → Type 0) (xs : List X) → ((x : X) → In x xs → P x) → AllByRecursion P xs
   all_from_in P [] f = tt
   all_from_in P (x ∷ xs) f = (f x (inl refl), all_from_in P xs (λ y i. f y (inr i)))
 

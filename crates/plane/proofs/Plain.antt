@@ -1,7 +1,7 @@
 -- Convex rings in plain words, and the first of them.
 use Rattle.std.proofs.Common.{◌≡◌, ℕ, ◌≢◌, ◌↔◌, List, [], ◌∷◌, inl, inr}
 use native.Mathlib.Decide.{ℕ_discrete}
-use Rattle.std.specs.List.{AllByRecursion as All}
+use Rattle.std.specs.List.{AllByRecursion}
 use Rattle.plane.specs.Whole.{WholePoint}
 use Rattle.plane.specs.Rings.{sides, In}
 use Rattle.plane.proofs.Polygons.{Left, Sees, Convex}
@@ -30,7 +30,7 @@ module _ (p : ℕ → WholePoint) where
       bca : Left (p b) (p c) (p a)
       bca = cycled (p a) (p b) (p c) abc
 
-      corner : In d (a ∷ b ∷ c ∷ []) → All (Sees p d) (sides (a ∷ b ∷ c ∷ []))
+      corner : In d (a ∷ b ∷ c ∷ []) → AllByRecursion (Sees p d) (sides (a ∷ b ∷ c ∷ []))
       corner (inl e) = (inl e, (inr (inr (rw e bca)), (inr (inl e), tt)))
       corner (inr (inl e)) = (inr (inl e), (inl e, (inr (inr (rw e (cycled (p b) (p c) (p a) bca))), tt)))
       corner (inr (inr (inl e))) = (inr (inr (rw e abc)), (inr (inl e), (inl e, tt)))

@@ -1,6 +1,6 @@
 -- Rings of numbered points: which points are left of their sides, which are inside, and which rings are convex.
 use Rattle.std.proofs.Common.{◌≡◌, ℕ, ◌⊎◌, List, [], ◌∷◌, ◌++◌, ℤ, pos, ◌+ℤ◌, ◌*ℤ◌, ◌<ℤ◌}
-use Rattle.std.specs.List.{AllByRecursion as All}
+use Rattle.std.specs.List.{AllByRecursion}
 use Rattle.plane.specs.Whole.{WholePoint, area}
 use Rattle.plane.specs.Rings.{steps, sides, In}
 
@@ -40,10 +40,10 @@ module _ (p : ℕ → WholePoint) where
   Decided q s = LeftOf q s ⊎ RightOf q s
 
   abbrev pub AllLeft : WholePoint → List (ℕ × ℕ) → Type 0
-  AllLeft q ss = All (LeftOf q) ss
+  AllLeft q ss = AllByRecursion (LeftOf q) ss
 
   abbrev pub AllRight : WholePoint → List (ℕ × ℕ) → Type 0
-  AllRight q ss = All (RightOf q) ss
+  AllRight q ss = AllByRecursion (RightOf q) ss
 
   -- q is left of s, or Same says that it is an end of s
   abbrev pub EndOrLeft : (ℕ → Type 0) → WholePoint → ℕ × ℕ → Type 0
@@ -63,7 +63,7 @@ module _ (p : ℕ → WholePoint) where
 
   -- in the direction u, v the point q lies farther out than all corners
   abbrev pub Beyond : ℤ → ℤ → WholePoint → List ℕ → Type 0
-  Beyond u v q ring = All (λ c. whole_reach u v (p c) <ℤ whole_reach u v q) ring
+  Beyond u v q ring = AllByRecursion (λ c. whole_reach u v (p c) <ℤ whole_reach u v q) ring
 
 -- the ring from a: first the sides that have q on the right, up to b, and then those that have it on the left
 pub record Run (p : ℕ → WholePoint) (q : WholePoint) (ring : List ℕ) : Type 0 where

@@ -1,7 +1,7 @@
 -- A point off the lines of a convex ring's sides is left of all of them, or right of one unbroken run.
 use Rattle.std.proofs.Common.{◌≡◌, ℕ, ◌⊎◌, List, [], ◌∷◌, ◌++◌, ℤ, pos, ◌+ℤ◌, neg_ℤ, ◌≤ℤ◌, ◌<ℤ◌, sym, refl, ap, inl, inr, ⊎_elim, append-nil, arith}
 use borrow.Author.Differences.{ints}
-use Rattle.std.specs.List.{AllByRecursion as All}
+use Rattle.std.specs.List.{AllByRecursion}
 use Rattle.plane.specs.Whole.{WholePoint}
 use Rattle.plane.specs.Rings.{steps, sides, In}
 use Rattle.plane.proofs.Polygons.{Left, LeftOf, RightOf, Decided, AllLeft, AllRight, Sees, Convex, Distinct, Rotated, Run}
@@ -75,7 +75,7 @@ module _ (p : ℕ → WholePoint) (q : WholePoint) where
   more x y z (inr d) (starts l a m s) = starts (y ∷ l) a m (moved (λ t i. inr i) s)
   more x y z (inr d) (run l b m f g) = run (y ∷ l) b m (d, f) g
 
-  kind : (x z : ℕ) (l : List ℕ) → All (Decided p q) (steps x l z) → Kind p q x z l
+  kind : (x z : ℕ) (l : List ℕ) → AllByRecursion (Decided p q) (steps x l z) → Kind p q x z l
   kind x z [] h = ⊎_elim (λ d. lefts (d, tt)) (λ d. rights (d, tt)) h.0
   kind x z (y ∷ l) h = more x y z h.0 (kind y z l h.1)
 
@@ -86,7 +86,7 @@ module _ (p : ℕ → WholePoint) (q : WholePoint) where
   from_start ring a t h d s (starts l c m s') = absurd (d.0 (in_right a l (c ∷ m) (inl (one_start (a ∷ (l ++ c ∷ m)) h a c s s'))))
   from_start ring a t h d s (run l b m f g) = record { a = a; removed = l; b = b; rest = m; rotated = t; rights = f; lefts = g }
 
-  by_kind : (x : ℕ) {l : List ℕ} → Convex p (x ∷ l) → Distinct (x ∷ l) → All (Decided p q) (steps x l x) → Kind p q x x l → AllLeft p q (steps x l x) ⊎ Run p q (x ∷ l)
+  by_kind : (x : ℕ) {l : List ℕ} → Convex p (x ∷ l) → Distinct (x ∷ l) → AllByRecursion (Decided p q) (steps x l x) → Kind p q x x l → AllLeft p q (steps x l x) ⊎ Run p q (x ∷ l)
   by_kind x h d c (lefts f) = inl f
   by_kind x h d c (rights {l = l} f) = absurd (not_all_right x l h f)
   by_kind x h d c (run l b m f g) = inr (record { a = x; removed = l; b = b; rest = m; rotated = record { front = []; back = x ∷ (l ++ b ∷ m); was = refl; is = sym (append-nil _) }; rights = f; lefts = g })
@@ -94,6 +94,6 @@ module _ (p : ℕ → WholePoint) (q : WholePoint) where
       (ring_turns p (x ∷ l) (a ∷ m) h) (distinct_turns (x ∷ l) (a ∷ m) d) (moved (sides_turn (x ∷ l) (a ∷ m)) s)
       (kind a a (m ++ x ∷ l) (all_from_in (Decided p q) (steps a (m ++ x ∷ l) a) (λ t i. all_in (Decided p q) (steps x (l ++ a ∷ m) x) c t (sides_turn (a ∷ m) (x ∷ l) t i)))))
 
-  pub one_run : (ring : List ℕ) → Convex p ring → Distinct ring → All (Decided p q) (sides ring) → AllLeft p q (sides ring) ⊎ Run p q ring
+  pub one_run : (ring : List ℕ) → Convex p ring → Distinct ring → AllByRecursion (Decided p q) (sides ring) → AllLeft p q (sides ring) ⊎ Run p q ring
   one_run [] h d c = inl tt
   one_run (x ∷ l) h d c = by_kind x h d c (kind x x l c)
