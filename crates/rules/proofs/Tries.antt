@@ -13,7 +13,7 @@ use Rattle.rules.specs.declared.standing.Standing.{Standing}
 use Rattle.rules.specs.declared.standing.Standing.TheVariants.{Corner, Inside, Held}
 use Rattle.rules.specs.Envelopes.{Envelope}
 use Rattle.rules.specs.Asking.{asked, all_left, some_undecided}
-use Rattle.rules.specs.Placing.{rights, placed, retired, from_lowest}
+use Rattle.rules.specs.Placing.{placed, retired, from_lowest}
 use Rattle.rules.specs.Trying.{is_held, all_inside, judged, tried}
 use Rattle.rules.specs.Promise.{Chosen}
 use Rattle.rules.proofs.Rotations.{rotated_sides}
