@@ -14,7 +14,7 @@ use Rattle.rules.specs.declared.standing.Standing.TheVariants.{Corner, Inside, H
 use Rattle.rules.specs.declared.location.Location.{Location}
 use Rattle.rules.specs.declared.location.Location.TheVariants as location
 use Rattle.rules.specs.Envelopes.{Envelope, empty}
-use Rattle.rules.specs.Asking.{located as locatedBy}
+use Rattle.rules.specs.Asking.{located as located_by}
 use Rattle.rules.specs.Settling.{settled, added}
 
 -- what is found of three dips: C, R and the centre judge's word; the least and the greatest doubled area and the corner judge's word
@@ -41,7 +41,7 @@ entered e [] = e
 entered e (x ∷ xs) = entered (settled corner_word (added e x)) xs
 
 abbrev pub of_year : List Dip → List Dip → YearFound
-of_year xs ys = let e = entered empty xs in record { standings = e.standings; ring = e.ring; located = map (locatedBy corner_word e) ys }
+of_year xs ys = let e = entered empty xs in record { standings = e.standings; ring = e.ring; located = map (located_by corner_word e) ys }
 
 pub data Row : Type 0 where
   -- three dips
