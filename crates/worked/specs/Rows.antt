@@ -1,7 +1,7 @@
 -- Worked readings, as rows of one list, and what each row says.
 use Rattle.std.specs.Prelude.{◌≡◌, ℕ, ◌+◌, ◌*◌, ◌^◌, false, List, [], ◌∷◌, ◌++◌, map, ℤ, pos, negsuc, Ok, Float}
 use Rattle.std.specs.Float.{fin}
-use Rattle.std.specs.List.{AllByRecursion as All}
+use Rattle.std.specs.List.{AllByRecursion}
 use Rattle.reading.specs.Makes.{logged_made, dipped_made}
 use Rattle.judge.specs.declared.word.Word.{Word}
 use Rattle.judge.specs.declared.word.Word.TheVariants.{Left, Right, Undecided}
@@ -61,7 +61,7 @@ Loggable a = logged_made a.0 a.1 ≡ Ok a
 abbrev pub Holds : Row → Type 0
 Holds (dips a b c found) = Dippable a × Dippable b × Dippable c × (of_dips a b c ≡ found)
 Holds (logs a b c word) = Loggable a × Loggable b × Loggable c × (quick_word a b c ≡ word)
-Holds (year xs ys found) = All Dippable xs × All Dippable ys × (of_year xs ys ≡ found)
+Holds (year xs ys found) = AllByRecursion Dippable xs × AllByRecursion Dippable ys × (of_year xs ys ≡ found)
 
 -- a dip without tolerance
 abbrev mark : ℤ → ℤ → Dip
