@@ -1,7 +1,7 @@
 // The centre judge of dipped readings: the doubled area of the centres, against how far the tolerances can move it.
 ghost use Rattle.std.specs.Prelude.{◌≡◌, ◌^◌, ◌≤◌, pos, unsigned_abs};
 ghost use Rattle.reading.specs.Makes.{dipped_numbers};
-ghost use Rattle.judge.specs.Dips.{level as levelOf, head as head_of};
+ghost use Rattle.judge.specs.Dips.{level as level_of, head as head_of};
 ghost use Rattle.judge.specs.Lengths.{ShortTwo, signed, dotted};
 ghost use Rattle.judge.specs.Centre.{apart, centre_area, centre_doubt, centre_word};
 ghost use Rattle.judge.specs.Centres.{centre_certain};
@@ -13,7 +13,7 @@ use reading::dipped::Dipped;
 
 // The difference of two levels, and their tolerances together.
 fn levels_apart(a: &Dipped, c: &Dipped) -> (i64, i64)
-    ensures value { result ≡ signed (apart (levelOf (dipped_numbers a.now)) (levelOf (dipped_numbers c.now))) }
+    ensures value { result ≡ signed (apart (level_of (dipped_numbers a.now)) (level_of (dipped_numbers c.now))) }
     ensures short { ShortTwo result }
 {
     let difference = i64::from(a.level()) - i64::from(c.level());

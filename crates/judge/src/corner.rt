@@ -1,7 +1,7 @@
 // The corner judge of dipped readings: the least and the greatest doubled area of all settings of the coordinates to their ends.
 ghost use Rattle.std.specs.Prelude.{◌≡◌, pos, ◌-ℤ◌, unsigned_abs};
 ghost use Rattle.std.specs.Int.{int_min, int_max};
-ghost use Rattle.reading.specs.contracts.kind.DippedKind.TheImpl.{ghosts as dippedKind};
+ghost use Rattle.reading.specs.contracts.kind.DippedKind.TheImpl.{ghosts as dipped_kind};
 ghost use Rattle.reading.specs.Makes.{dipped_numbers};
 ghost use Rattle.judge.specs.Dips.{low, high, head as head_of};
 ghost use Rattle.judge.specs.Words.{Certain, Decided};
@@ -125,8 +125,8 @@ impl Judge for Corner {
 
     fn ask(&self, a: &Dipped, b: &Dipped, c: &Dipped) -> Word
         ensures word { result ≡ corner_word (dipped_numbers a.now) (dipped_numbers b.now) (dipped_numbers c.now) }
-        ensures certain { Certain dippedKind.stands a.now b.now c.now result }
-        ensures decided { Decided dippedKind.stands a.now b.now c.now result }
+        ensures certain { Certain dipped_kind.stands a.now b.now c.now result }
+        ensures decided { Decided dipped_kind.stands a.now b.now c.now result }
     {
         let (least, greatest) = self.sweep(a, b, c);
         Word::of(least > 0, greatest < 0)

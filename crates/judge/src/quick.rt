@@ -1,7 +1,7 @@
 // The quick judge of logged readings: the orientation test in binary64, trusted only beyond its rounding error.
 ghost use Rattle.std.specs.Prelude.{◌≡◌};
 ghost use Rattle.reading.specs.Makes.{logged_numbers};
-ghost use Rattle.orientation.specs.Filter.{difference as differenceOf, weight as weightOf, allowance as allowanceOf};
+ghost use Rattle.orientation.specs.Filter.{difference as difference_of, weight as weight_of, allowance as allowance_of};
 ghost use Rattle.judge.specs.Quick.{coefficient, quick_word};
 ghost use Rattle.judge.specs.Quicks.{quick_certain};
 
@@ -15,7 +15,7 @@ pub struct Quick;
 impl Quick {
     // D, the doubled area as far as binary64 tells it.
     pub fn difference(&self, a: &Logged, b: &Logged, c: &Logged) -> f64
-        ensures { result ≡ differenceOf (logged_numbers a.now) (logged_numbers b.now) (logged_numbers c.now) }
+        ensures { result ≡ difference_of (logged_numbers a.now) (logged_numbers b.now) (logged_numbers c.now) }
     {
         let p = a.level() - c.level();
         let q = b.head() - c.head();
@@ -26,7 +26,7 @@ impl Quick {
 
     // T, what the rounding errors of D are measured by.
     pub fn weight(&self, a: &Logged, b: &Logged, c: &Logged) -> f64
-        ensures { result ≡ weightOf (logged_numbers a.now) (logged_numbers b.now) (logged_numbers c.now) }
+        ensures { result ≡ weight_of (logged_numbers a.now) (logged_numbers b.now) (logged_numbers c.now) }
     {
         let p = a.level().abs() + c.level().abs();
         let q = b.head().abs() + c.head().abs();
@@ -37,7 +37,7 @@ impl Quick {
 
     // E, what D must exceed to be trusted.
     pub fn allowance(&self, a: &Logged, b: &Logged, c: &Logged) -> f64
-        ensures { result ≡ allowanceOf coefficient (logged_numbers a.now) (logged_numbers b.now) (logged_numbers c.now) }
+        ensures { result ≡ allowance_of coefficient (logged_numbers a.now) (logged_numbers b.now) (logged_numbers c.now) }
     {
         // 6 · 2^-53
         6.661338147750939e-16 * self.weight(a, b, c)

@@ -1,6 +1,6 @@
 // A page: a title with the count of readings, a line for each reading's standing, and the ring.
 ghost use Rattle.std.specs.Prelude.{◌≡◌, [], ◌∷◌};
-ghost use Rattle.page.specs.Text.{letter as letterOf, standing_line, standing_lines, ring_numbers, ring_line, page_text};
+ghost use Rattle.page.specs.Text.{letter as letter_of, standing_line, standing_lines, ring_numbers, ring_line, page_text};
 ghost use Rattle.page.specs.Placing.{Placed, came, paged};
 
 use crate::put::{put, put_number};
@@ -8,7 +8,7 @@ use reading::cause::Cause;
 use rules::standing::Standing;
 
 fn letter(standing: Standing) -> u8
-    ensures { result ≡ letterOf standing }
+    ensures { result ≡ letter_of standing }
 {
     match standing {
         Standing::Corner => b'C',

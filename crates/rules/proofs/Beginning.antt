@@ -1,5 +1,5 @@
 -- The first ring: three readings that the judge decides.
-use Rattle.std.proofs.Common.{◌≡◌, ℕ, ◌<◌, ◌≤◌, ◌≢◌, ◌⊎◌, List, [], ◌∷◌, length, get_or, set, Some, sym, ◌∙◌, subst, inl, inr, arith, lit≤, length-set, get_or-set_other, get_or-set_same}
+use Rattle.std.proofs.Common.{◌≡◌, ℕ, ◌<◌, ◌≢◌, ◌⊎◌, List, [], ◌∷◌, length, get_or, set, Some, sym, ◌∙◌, subst, inl, inr, arith, lit≤, length-set, get_or-set_other, get_or-set_same}
 use native.Mathlib.Decide.{ℕ_discrete}
 use Rattle.plane.specs.Points.{Point}
 use Rattle.plane.specs.Rings.{In}

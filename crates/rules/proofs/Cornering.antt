@@ -14,7 +14,7 @@ use Rattle.rules.specs.Promise.{Convex, Chosen}
 use Rattle.rules.proofs.Geometry as geometry
 use Rattle.rules.proofs.Geometry.{LeftOf, RightOf, AllLeft, convex_turns, inside_turns, all_left_turns, convex_grows, inside_grows, all_left_grows}
 use Rattle.rules.proofs.Rotations.{lowest_rotates, rotated_length, rotated_in, rotated_distinct}
-use Rattle.rules.proofs.Lowests.{from_lowest_lem}
+use Rattle.rules.proofs.Lowests.{lowest_first}
 use Rattle.rules.proofs.Placements.{all_inside_length, all_inside_at, all_inside_other}
 use Rattle.rules.proofs.Soundness.{standing, Sound, Step}
 use Rattle.rules.proofs.Beginning.{held_not_inside, corner_not_inside}
@@ -168,7 +168,7 @@ module _ {R : Type 0} (stands : R → Point → Type 0) (e : Envelope R) (s : So
       corner_in = λ i h. to_new i (in_now i h);
       in_corner = λ i j. corner_now i (in_new i j);
       three = inr long;
-      lowest = from_lowest_lem grown distinct_new;
+      lowest = lowest_first grown distinct_new;
       fresh = λ h. absurd (some_ring h);
       convex = convex_now;
       inside = λ i h at ch. inside_now at ch i h;

@@ -42,14 +42,14 @@ run_after before i [] us ended = omega arith
 run_after before i (v ∷ vs) us (right e f) = rw e (run_after true (i + 1) vs us f ∙ omega arith)
 run_after before i (v ∷ vs) us (left e f) = rw e (run_after false (i + 1) vs us f ∙ omega arith)
 
-last_right_lem : (u : Word) (us : List Word) → is_right (get_or (u ∷ us) (length us) Left) ≡ last_right (is_right u) us
-last_right_lem u [] = refl
-last_right_lem u (v ∷ us) = last_right_lem v us
+last_right_is : (u : Word) (us : List Word) → is_right (get_or (u ∷ us) (length us) Left) ≡ last_right (is_right u) us
+last_right_is u [] = refl
+last_right_is u (v ∷ us) = last_right_is v us
 
 last_at : (vs : List Word) (u : Word) (us : List Word) → is_right (get_or (vs ++ u ∷ us) (length (vs ++ u ∷ us) - 1) Left) ≡ last_right (is_right u) us
 last_at vs u us =
     let e : length (vs ++ u ∷ us) - 1 ≡ length vs + length us = simp length-append (omega arith) in
-    rw (e, get_or-append-add vs (u ∷ us) (length us) Left) (last_right_lem u us)
+    rw (e, get_or-append-add vs (u ∷ us) (length us) Left) (last_right_is u us)
 
 -- the run begins where the words begin that fall and wrap around
 start_at : (u : Word) (us vs : List Word) → u ≡ Right → Falling true (u ∷ us ++ vs) → run_start (vs ++ u ∷ us) ≡ length vs

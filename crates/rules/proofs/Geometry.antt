@@ -165,20 +165,20 @@ module _ (at : ℕ → Point) (n : ℕ) (ring : List ℕ) (u : Under n ring) (h 
   all_right : whole.AllRight (p at n) (p at n k) (steps a removed b)
   all_right = all_from_in (whole.RightOf (p at n) (p at n k)) (steps a removed b) (λ s i. let e = side s (inl i) in (right_is at n s.0 s.1 k e.0 e.1 hk).1 (rights s i))
 
-  all_left_lem : whole.AllLeft (p at n) (p at n k) (steps b rest a)
-  all_left_lem = all_from_in (whole.LeftOf (p at n) (p at n k)) (steps b rest a) (λ s i. let e = side s (inr i) in (left_is at n s.0 s.1 k e.0 e.1 hk).1 (lefts s i))
+  steps_all_left : whole.AllLeft (p at n) (p at n k) (steps b rest a)
+  steps_all_left = all_from_in (whole.LeftOf (p at n) (p at n k)) (steps b rest a) (λ s i. let e = side s (inr i) in (left_is at n s.0 s.1 k e.0 e.1 hk).1 (lefts s i))
 
   convex_a : whole.Convex (p at n) from_a
   convex_a = (convex_is at n from_a under_a).1 (convex_turns at rotated h)
 
   pub convex_grows : Convex at grown
-  convex_grows = (convex_is at n grown under_grown).0 (ring_grows (p at n) k a b removed rest convex_a all_right all_left_lem)
+  convex_grows = (convex_is at n grown under_grown).0 (ring_grows (p at n) k a b removed rest convex_a all_right steps_all_left)
 
   pub inside_grows : (c : ℕ) → c < n → Inside at ring c → Inside at grown c
-  inside_grows c hc i = (inside_is at n grown under_grown c hc).0 (inside_stays (p at n) k a b removed rest convex_a all_right all_left_lem c ((inside_is at n from_a under_a c hc).1 (inside_turns at rotated c i)))
+  inside_grows c hc i = (inside_is at n grown under_grown c hc).0 (inside_stays (p at n) k a b removed rest convex_a all_right steps_all_left c ((inside_is at n from_a under_a c hc).1 (inside_turns at rotated c i)))
 
   pub all_left_grows : (c : ℕ) → c < n → AllLeft at ring c → AllLeft at grown c
-  all_left_grows c hc i = (all_left_is at n grown under_grown c hc).0 (left_stays (p at n) k a b removed rest convex_a all_right all_left_lem (p at n c) ((all_left_is at n from_a under_a c hc).1 (all_left_turns at rotated c i)))
+  all_left_grows c hc i = (all_left_is at n grown under_grown c hc).0 (left_stays (p at n) k a b removed rest convex_a all_right steps_all_left (p at n c) ((all_left_is at n from_a under_a c hc).1 (all_left_turns at rotated c i)))
 
 -- ---- the first ring
 pub triangle : (at : ℕ → Point) (a b c : ℕ) → LeftOf at (a, b) c → Convex at (a ∷ b ∷ c ∷ [])

@@ -53,8 +53,8 @@ module _ {R : Type 0} (stands : R → Point → Type 0) (some : (r : R) → (q :
       within i (g.inside_stays i t.1) (rw (sound m).sized (le_trans (rw (sound l).sized at t.0) g.longer))
 
   -- an enter that answered inside
-  entered_as_lem : (l i : ℕ) (x : R) (j : Judging stands) → l < m → get_or (calls stands s) l (enter x j) ≡ enter x j → answer stands capacity (e l) (enter x j) ≡ entered (Ok (i, Inside)) → standing_at (e (suc l)) i ≡ Ok Inside
-  entered_as_lem l i x j h c a =
+  stands_as_entered : (l i : ℕ) (x : R) (j : Judging stands) → l < m → get_or (calls stands s) l (enter x j) ≡ enter x j → answer stands capacity (e l) (enter x j) ≡ entered (Ok (i, Inside)) → standing_at (e (suc l)) i ≡ Ok Inside
+  stands_as_entered l i x j h c a =
       subst (λ f. standing_at f i ≡ Ok Inside) (sym (moment_after stands some capacity s l (enter x j) (le_trans h last) ∙ ap (after stands capacity (e l)) c)) (from_answer stands capacity (e l) i x j a)
 
   pub kept : Kept stands capacity s m
@@ -63,7 +63,7 @@ module _ {R : Type 0} (stands : R → Point → Type 0) (some : (r : R) → (q :
     ring_read = λ p. ((λ h. rw (lt-ltb p (length (e m).ring) h) refl), (λ h. rw (le-ltb p (length (e m).ring) h) refl));
     convex = (sound m).convex;
     stood_inside = was_inside;
-    entered_inside = λ l i h x j c a. was_inside (suc l) i h (entered_as_lem l i x j h c a);
+    entered_inside = λ l i h x j c a. was_inside (suc l) i h (stands_as_entered l i x j h c a);
     located_inside = λ l h x j p at ch q hq. stays_inside stands j.word j.certain x q hq (e l) (e m) (sound l) (sound m) (grows_to stands some capacity s l m h) p at ch;
     located_outside = λ x j p. (outside_some j.word (e m) x p, λ at ch q hq. lies_outside stands j.word j.certain x q hq (e m) (sound m) p at ch);
     located_undecided = λ x j. unsure j.word (e m) x;

@@ -12,7 +12,7 @@ use Rattle.rules.specs.declared.location.Location.TheVariants as location
 use Rattle.rules.specs.Envelopes.{Envelope}
 use Rattle.rules.specs.Asking.{asked, all_left, some_right, location_of, located}
 use Rattle.rules.specs.Promise.{Within, Out, Chosen}
-use Rattle.rules.proofs.Wordings.{words_are, all_left_lem, some_right_lem}
+use Rattle.rules.proofs.Wordings.{words_are, all_left_each, some_right_one}
 use Rattle.rules.proofs.Geometry.{AllLeft, Under, inside_within, right_out}
 use Rattle.rules.proofs.Soundness.{Sound, Grows}
 use Rattle.rules.proofs.Saying.{W, said_left, said_right}
@@ -93,7 +93,7 @@ module _ {R : Type 0} (stands : R → Point → Type 0) (word : R → R → R �
       let chf = still_chosen at n q stands f.readings refl ch in
       let w = inside_words (asked word e x) h in
       let V = W stands word certain e.readings e.ring s.under x in
-      let left = all_left_lem V (sides e.ring) (subst (λ v. all_left v ≡ true) (words_are word e.readings (sides e.ring) x) w.1) in
+      let left = all_left_each V (sides e.ring) (subst (λ v. all_left v ≡ true) (words_are word e.readings (sides e.ring) x) w.1) in
       let some : e.ring ≢ [] = λ z. w.0 (ap (λ l. asked word (record { readings = e.readings; standings = e.standings; ring = l }) x) z) in
       let was : AllLeft to e.ring n = λ a i. said_left stands word certain e.readings e.ring s.under x to (g.chosen to chf) n (true_q at n q stands x hq) a i (all_in (λ a. V a ≡ Left) (sides e.ring) left a i) in
       let now = g.left_stays some to chf n was in
@@ -106,7 +106,7 @@ module _ {R : Type 0} (stands : R → Point → Type 0) (word : R → R → R �
       let to = with_q at n q in
       let che = still_chosen at n q stands e.readings refl ch in
       let V = W stands word certain e.readings e.ring s.under x in
-      let r = some_right_lem V (sides e.ring) (subst (λ v. some_right v ≡ true) (words_are word e.readings (sides e.ring) x) (outside_words (asked word e x) h)) in
+      let r = some_right_one V (sides e.ring) (subst (λ v. some_right v ≡ true) (words_are word e.readings (sides e.ring) x) (outside_words (asked word e x) h)) in
       out_q at n q e.ring s.under
       (right_out to (suc n) e.ring (λ i j. omega (arith, s.under i j)) n (omega arith) (s.convex to che) r.0 r.1
       (said_right stands word certain e.readings e.ring s.under x to che n (true_q at n q stands x hq) r.0 r.1 r.2))

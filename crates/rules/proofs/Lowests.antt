@@ -1,5 +1,5 @@
 -- A ring read from its lowest number begins with it.
-use Rattle.std.proofs.Common.{◌≡◌, ℕ, suc, ◌+◌, ◌<◌, ◌≤◌, Bool, true, false, cond, not, ◌&&◌, T, ltb, ◌≢◌, ◌⊎◌, List, [], ◌∷◌, ◌++◌, length, sym, refl, ap, ◌∙◌, subst, inl, inr, ⊎_elim, arith, ltb→lt, nltb→le}
+use Rattle.std.proofs.Common.{◌≡◌, ℕ, suc, ◌+◌, ◌<◌, ◌≤◌, Bool, true, false, cond, not, ◌&&◌, T, ltb, ◌≢◌, List, [], ◌∷◌, ◌++◌, length, sym, refl, ap, ◌∙◌, subst, inl, inr, ⊎_elim, arith, ltb→lt, nltb→le}
 use lib.Seq.{drop-append_seam, take-append_seam}
 use Rattle.plane.specs.Rings.{In}
 use Rattle.plane.proofs.Polygons.{Distinct}
@@ -7,9 +7,9 @@ use Rattle.plane.proofs.Members.{in_either, in_right}
 use Rattle.rules.specs.Placing.{turned, below_all, lowest_at, from_lowest}
 use Rattle.rules.specs.Promise.{Lowest}
 
-below_all_lem : (a : ℕ) (l : List ℕ) → below_all a l ≡ true → (i : ℕ) → In i l → a < i
-below_all_lem a [] h i j = absurd j
-below_all_lem a (b ∷ l) h i j = by (ltb a b) refl h (λ h k. below_all_lem a l h i k) j
+below_each : (a : ℕ) (l : List ℕ) → below_all a l ≡ true → (i : ℕ) → In i l → a < i
+below_each a [] h i j = absurd j
+below_each a (b ∷ l) h i j = by (ltb a b) refl h (λ h k. below_each a l h i k) j
   where
     by : (t : Bool) → ltb a b ≡ t → (t && below_all a l) ≡ true → (below_all a l ≡ true → In i l → a < i) → In i (b ∷ l) → a < i
     by true q h rec (inl e) = rw e (ltb→lt a b (subst T (sym q) tt))
@@ -75,12 +75,12 @@ least a [] d = record { m = a; front = []; back = []; is = refl; at = refl; befo
 least a (b ∷ l) d = by (below_all a (b ∷ l)) refl (least b l d.1)
   where
     by : (t : Bool) → below_all a (b ∷ l) ≡ t → Least (b ∷ l) → Least (a ∷ b ∷ l)
-    by true h rec = record { m = a; front = []; back = b ∷ l; is = refl; at = ap (λ t. cond t 0 (1 + lowest_at (b ∷ l))) h; before = λ i j. absurd j; after = below_all_lem a (b ∷ l) h }
+    by true h rec = record { m = a; front = []; back = b ∷ l; is = refl; at = ap (λ t. cond t 0 (1 + lowest_at (b ∷ l))) h; before = λ i j. absurd j; after = below_each a (b ∷ l) h }
     by false h rec = one_more a (b ∷ l) d.0 h rec
 
-pub from_lowest_lem : (l : List ℕ) → Distinct l → Lowest (from_lowest l)
-from_lowest_lem [] d = tt
-from_lowest_lem (a ∷ l) d =
+pub lowest_first : (l : List ℕ) → Distinct l → Lowest (from_lowest l)
+lowest_first [] d = tt
+lowest_first (a ∷ l) d =
     let t = least a l d in
     subst Lowest (sym (ap (λ p. turned p (a ∷ l)) t.at ∙ ap (turned (length t.front)) t.is ∙ (λ i. drop-append_seam t.front (t.m ∷ t.back) i ++ take-append_seam t.front (t.m ∷ t.back) i)))
     (λ i j. ⊎_elim (t.after i) (t.before i) (in_either i t.back t.front j))

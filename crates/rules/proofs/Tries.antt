@@ -13,11 +13,11 @@ use Rattle.rules.specs.declared.standing.Standing.{Standing}
 use Rattle.rules.specs.declared.standing.Standing.TheVariants.{Corner, Inside, Held}
 use Rattle.rules.specs.Envelopes.{Envelope}
 use Rattle.rules.specs.Asking.{asked, all_left, some_undecided}
-use Rattle.rules.specs.Placing.{rights, placed, retired, from_lowest}
+use Rattle.rules.specs.Placing.{placed, retired, from_lowest}
 use Rattle.rules.specs.Trying.{is_held, all_inside, judged, tried}
 use Rattle.rules.specs.Promise.{Chosen}
 use Rattle.rules.proofs.Rotations.{rotated_sides}
-use Rattle.rules.proofs.Wordings.{words_are, all_left_lem, decided, not_all_left}
+use Rattle.rules.proofs.Wordings.{words_are, all_left_each, decided, not_all_left}
 use Rattle.rules.proofs.FindingRuns.{found_run}
 use Rattle.rules.proofs.Placements.{placed_at, retired_at}
 use Rattle.rules.proofs.Geometry.{LeftOf, RightOf, Run, one_run_is}
@@ -26,10 +26,10 @@ use Rattle.rules.proofs.Saying.{W, said_left, said_right}
 use Rattle.rules.proofs.Enclosing.{enclosing}
 use Rattle.rules.proofs.Cornering.{cornered, cornering}
 
-is_held_lem : (t : Standing) → is_held t ≡ true → t ≡ Held
-is_held_lem Held h = refl
-is_held_lem Corner h = let z : ◌≡◌ {A = ℕ} 0 1 = cc in absurd (omega arith)
-is_held_lem Inside h = let z : ◌≡◌ {A = ℕ} 0 1 = cc in absurd (omega arith)
+only_held : (t : Standing) → is_held t ≡ true → t ≡ Held
+only_held Held h = refl
+only_held Corner h = let z : ◌≡◌ {A = ℕ} 0 1 = cc in absurd (omega arith)
+only_held Inside h = let z : ◌≡◌ {A = ℕ} 0 1 = cc in absurd (omega arith)
 
 not_both : (z : ℤ) → pos 0 <ℤ z → z <ℤ pos 0 → ⊥
 not_both z h k = omega (arith, ints)
@@ -103,12 +103,12 @@ module _ {R : Type 0} (stands : R → Point → Type 0) (some : (r : R) → (q :
 
   by_words : (b l u : Bool) → is_held (get_or e.standings k Corner) ≡ b → all_left ws ≡ l → some_undecided ws ≡ u → Step stands e (cond b (judged (cond l Inside (cond u Held Corner)) e k ws) e)
   by_words false l u h p q = unchanged
-  by_words true true u h p q = enclosing stands e s k hk filled (held h) ws (λ at ch t i. left at ch t i (all_in (λ t. V t ≡ Left) (sides e.ring) (all_left_lem V (sides e.ring) p) t i))
+  by_words true true u h p q = enclosing stands e s k hk filled (held h) ws (λ at ch t i. left at ch t i (all_in (λ t. V t ≡ Left) (sides e.ring) (all_left_each V (sides e.ring) p) t i))
     where
       held : is_held (get_or e.standings k Corner) ≡ true → standing e k ≡ Held
-      held h = get_or_default e.standings k Held Corner (rw s.sized hk) ∙ is_held_lem _ h
+      held h = get_or_default e.standings k Held Corner (rw s.sized hk) ∙ only_held _ h
   by_words true false true h p q = unchanged
-  by_words true false false h p q = corner_step (get_or_default e.standings k Held Corner (rw s.sized hk) ∙ is_held_lem _ h) q p
+  by_words true false false h p q = corner_step (get_or_default e.standings k Held Corner (rw s.sized hk) ∙ only_held _ h) q p
 
   pub try_step : Step stands e (tried word e k x)
   try_step = subst (λ v. Step stands e (cond (is_held (get_or e.standings k Corner)) (judged (cond (all_left v) Inside (cond (some_undecided v) Held Corner)) e k v) e)) (sym words) (by_words _ _ _ refl refl refl)

@@ -34,10 +34,10 @@ held_all_inside : (is : List ℕ) (st : List Standing) → held_count (all_insid
 held_all_inside [] st = omega arith
 held_all_inside (i ∷ is) st = let h = held_all_inside is (set st i Inside) in let g = held_set st i Inside refl in omega arith
 
-is_held_lem : (s : Standing) → is_held s ≡ true → s ≡ Held
-is_held_lem Corner e = let no : ◌≡◌ {A = ℕ} 0 1 = cc in absurd (omega arith)
-is_held_lem Inside e = let no : ◌≡◌ {A = ℕ} 0 1 = cc in absurd (omega arith)
-is_held_lem Held e = refl
+only_held : (s : Standing) → is_held s ≡ true → s ≡ Held
+only_held Corner e = let no : ◌≡◌ {A = ℕ} 0 1 = cc in absurd (omega arith)
+only_held Inside e = let no : ◌≡◌ {A = ℕ} 0 1 = cc in absurd (omega arith)
+only_held Held e = refl
 
 module _ {R : Type 0} where
   -- no verdict adds to the held, and any but held takes the reading, if it was held, from them
@@ -73,7 +73,7 @@ module _ {R : Type 0} (word : R → R → R → Word) where
       let s = get_or e.standings k Corner in
       let ws = asked word e x in
       cond_both (is_held s) (judged (verdict ws) e k ws) e (λ (f : Envelope R). held_count f.standings ≡ held_count e.standings → (f ≡ e) × (s ≡ Held → verdict ws ≡ Held))
-      (λ t q. let v = judged_held (verdict ws) e k ws (is_held_lem s t) q in (ap (λ u. judged u e k ws) v, λ h. v))
+      (λ t q. let v = judged_held (verdict ws) e k ws (only_held s t) q in (ap (λ u. judged u e k ws) v, λ h. v))
       (λ t q. (refl, λ h. absurd (both_ways (is_held s) t (ap is_held h))))
 
   quiet_from : (r : R) (rs : List R) (k : ℕ) (e : Envelope R) → (get_or e.standings k Corner ≡ Held → verdict (asked word e r) ≡ Held)

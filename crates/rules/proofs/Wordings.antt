@@ -38,17 +38,17 @@ not_left_first w ws (inr e) h = inl e
 
 -- ---- the words W on sides
 module _ (W : ℕ × ℕ → Word) where
-  pub all_left_lem : (ss : List (ℕ × ℕ)) → all_left (map W ss) ≡ true → All (λ s. W s ≡ Left) ss
-  all_left_lem [] h = tt
-  all_left_lem (s ∷ ss) h = let t = left_first (W s) (map W ss) h in (t.0, all_left_lem ss t.1)
+  pub all_left_each : (ss : List (ℕ × ℕ)) → all_left (map W ss) ≡ true → All (λ s. W s ≡ Left) ss
+  all_left_each [] h = tt
+  all_left_each (s ∷ ss) h = let t = left_first (W s) (map W ss) h in (t.0, all_left_each ss t.1)
 
-  pub some_right_lem : (ss : List (ℕ × ℕ)) → some_right (map W ss) ≡ true → (s : ℕ × ℕ) × In s ss × (W s ≡ Right)
-  some_right_lem [] h = absurd (false≢true h)
-  some_right_lem (s ∷ ss) h = ⊎_elim (λ e. (s, inl refl, e)) (λ k. let t = some_right_lem ss k in (t.0, inr t.1, t.2)) (right_first (W s) (map W ss) h)
+  pub some_right_one : (ss : List (ℕ × ℕ)) → some_right (map W ss) ≡ true → (s : ℕ × ℕ) × In s ss × (W s ≡ Right)
+  some_right_one [] h = absurd (false≢true h)
+  some_right_one (s ∷ ss) h = ⊎_elim (λ e. (s, inl refl, e)) (λ k. let t = some_right_one ss k in (t.0, inr t.1, t.2)) (right_first (W s) (map W ss) h)
 
-  pub some_undecided_lem : (ss : List (ℕ × ℕ)) → some_undecided (map W ss) ≡ true → (s : ℕ × ℕ) × In s ss × (W s ≡ Undecided)
-  some_undecided_lem [] h = absurd (false≢true h)
-  some_undecided_lem (s ∷ ss) h = ⊎_elim (λ e. (s, inl refl, e)) (λ k. let t = some_undecided_lem ss k in (t.0, inr t.1, t.2)) (undecided_first (W s) (map W ss) h)
+  pub some_undecided_one : (ss : List (ℕ × ℕ)) → some_undecided (map W ss) ≡ true → (s : ℕ × ℕ) × In s ss × (W s ≡ Undecided)
+  some_undecided_one [] h = absurd (false≢true h)
+  some_undecided_one (s ∷ ss) h = ⊎_elim (λ e. (s, inl refl, e)) (λ k. let t = some_undecided_one ss k in (t.0, inr t.1, t.2)) (undecided_first (W s) (map W ss) h)
 
   pub decided : (ss : List (ℕ × ℕ)) → some_undecided (map W ss) ≡ false → All (λ s. (W s ≡ Left) ⊎ (W s ≡ Right)) ss
   decided [] h = tt

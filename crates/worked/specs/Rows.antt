@@ -1,7 +1,7 @@
 -- Worked readings, as rows of one list, and what each row says.
 use Rattle.std.specs.Prelude.{◌≡◌, ℕ, ◌+◌, ◌*◌, ◌^◌, false, List, [], ◌∷◌, ◌++◌, map, ℤ, pos, negsuc, Ok, Float}
 use Rattle.std.specs.Float.{fin}
-use Rattle.std.specs.List.{AllByRecursion as All}
+use Rattle.std.specs.List.{AllByRecursion}
 use Rattle.reading.specs.Makes.{logged_made, dipped_made}
 use Rattle.judge.specs.declared.word.Word.{Word}
 use Rattle.judge.specs.declared.word.Word.TheVariants.{Left, Right, Undecided}
@@ -14,7 +14,7 @@ use Rattle.rules.specs.declared.standing.Standing.TheVariants.{Corner, Inside, H
 use Rattle.rules.specs.declared.location.Location.{Location}
 use Rattle.rules.specs.declared.location.Location.TheVariants as location
 use Rattle.rules.specs.Envelopes.{Envelope, empty}
-use Rattle.rules.specs.Asking.{located as locatedBy}
+use Rattle.rules.specs.Asking.{located as located_by}
 use Rattle.rules.specs.Settling.{settled, added}
 
 -- what is found of three dips: C, R and the centre judge's word; the least and the greatest doubled area and the corner judge's word
@@ -41,7 +41,7 @@ entered e [] = e
 entered e (x ∷ xs) = entered (settled corner_word (added e x)) xs
 
 abbrev pub of_year : List Dip → List Dip → YearFound
-of_year xs ys = let e = entered empty xs in record { standings = e.standings; ring = e.ring; located = map (locatedBy corner_word e) ys }
+of_year xs ys = let e = entered empty xs in record { standings = e.standings; ring = e.ring; located = map (located_by corner_word e) ys }
 
 pub data Row : Type 0 where
   -- three dips
@@ -61,7 +61,7 @@ Loggable a = logged_made a.0 a.1 ≡ Ok a
 abbrev pub Holds : Row → Type 0
 Holds (dips a b c found) = Dippable a × Dippable b × Dippable c × (of_dips a b c ≡ found)
 Holds (logs a b c word) = Loggable a × Loggable b × Loggable c × (quick_word a b c ≡ word)
-Holds (year xs ys found) = All Dippable xs × All Dippable ys × (of_year xs ys ≡ found)
+Holds (year xs ys found) = AllByRecursion Dippable xs × AllByRecursion Dippable ys × (of_year xs ys ≡ found)
 
 -- a dip without tolerance
 abbrev mark : ℤ → ℤ → Dip

@@ -15,6 +15,6 @@ returns c =
     let r = dipped_numbers c.args.c.now in
     let ya = back c.args.ya (omega arith) in
     joined (head q) (over_third int_min p q r (held c.args.ya)) (over_third int_max p q r (held c.args.ya))
-    c.head-ends-yb.result c.over-third.result c.over-third-2.result c.join.result
-    c.head-ends-yb.ensures.short.0 c.head-ends-yb.ensures.short.1 c.head-ends-yb.ensures.value c.over-third.ensures c.over-third-2.ensures c.join.ensures
+    c.head_ends-yb.result c.over_third.result c.over_third-2.result c.join.result
+    c.head_ends-yb.ensures.short.0 c.head_ends-yb.ensures.short.1 c.head_ends-yb.ensures.value c.over_third.ensures c.over_third-2.ensures c.join.ensures
     ∙ (λ i. (over_second int_min p q r (ya i), over_second int_max p q r (ya i)))

@@ -16,6 +16,6 @@ returns c =
     let ya = back c.args.ya (omega arith) in
     let yb = back c.args.yb (omega arith) in
     joined (head r) (at_heads int_min p q r (held c.args.ya) (held c.args.yb)) (at_heads int_max p q r (held c.args.ya) (held c.args.yb))
-    c.head-ends-yc.result c.over-levels.result c.over-levels-2.result c.join.result
-    c.head-ends-yc.ensures.short.0 c.head-ends-yc.ensures.short.1 c.head-ends-yc.ensures.value c.over-levels.ensures c.over-levels-2.ensures c.join.ensures
+    c.head_ends-yc.result c.over_levels.result c.over_levels-2.result c.join.result
+    c.head_ends-yc.ensures.short.0 c.head_ends-yc.ensures.short.1 c.head_ends-yc.ensures.value c.over_levels.ensures c.over_levels-2.ensures c.join.ensures
     ∙ (λ i. (over_third int_min p q r (ya i) (yb i), over_third int_max p q r (ya i) (yb i)))

@@ -2,11 +2,11 @@ use Rattle.std.proofs.Common.{arith}
 use Rattle.judge.proofs.Held.{product_is, sum_fits, three_fits, three_is, three_small}
 use Rattle.judge.proofs.lengths.dot.Goals as goal
 
-pub overflow-add-result : goal.overflow-add-result
-overflow-add-result c = sum_fits c.product.result c.product-2.result (omega arith) (omega arith)
+pub overflow_add-result : goal.overflow_add-result
+overflow_add-result c = sum_fits c.product.result c.product-2.result (omega arith) (omega arith)
 
-pub overflow-add-result-2 : goal.overflow-add-result-2
-overflow-add-result-2 c = three_fits c.product.result c.product-2.result c.product-3.result c.product.ensures.small c.product-2.ensures.small c.product-3.ensures.small
+pub overflow_add-result-2 : goal.overflow_add-result-2
+overflow_add-result-2 c = three_fits c.product.result c.product-2.result c.product-3.result c.product.ensures.small c.product-2.ensures.small c.product-3.ensures.small
 
 pub returns : goal.returns
 returns c =

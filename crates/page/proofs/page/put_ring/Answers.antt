@@ -6,11 +6,11 @@ use Rattle.page.proofs.Places.{placed_none, placed_more, placed_as}
 use Rattle.page.proofs.page.put_ring.Goals as goal
 
 pub loop-number-init : goal.loop-number-init
-loop-number-init c = placed_none c.put-end.result c.put-end.new.out c.put-end.type-inv
+loop-number-init c = placed_none c.put-end.result c.put-end.new.out c.put-end.type_inv
 
 pub loop-number-preserved : goal.loop-number-preserved
 loop-number-preserved c =
-    placed_as (ring_more c.args.ring.now c.loop-number.number-index _ (omega arith)) (placed_more (omega arith) c.loop-number.invariant c.put-ring-number-end.ensures)
+    placed_as (ring_more c.args.ring.now c.loop-number.number-index _ (omega arith)) (placed_more (omega arith) c.loop-number.invariant c.put_ring_number-end.ensures)
 
 pub returns : goal.returns
 returns c =

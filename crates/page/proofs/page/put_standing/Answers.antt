@@ -6,4 +6,4 @@ use Rattle.page.proofs.page.put_standing.Goals as goal
 pub returns : goal.returns
 unfolding standing_line
 returns c =
-    placed_as (ap (λ (l : ℕ). decimal c.args.number ++ (32 ∷ l ∷ 10 ∷ [])) c.letter.ensures) (placed_more (omega arith) c.put-number-at.ensures c.put.ensures)
+    placed_as (ap (λ (l : ℕ). decimal c.args.number ++ (32 ∷ l ∷ 10 ∷ [])) c.letter.ensures) (placed_more (omega arith) c.put_number-at.ensures c.put.ensures)

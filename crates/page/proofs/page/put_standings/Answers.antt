@@ -10,7 +10,7 @@ loop-i-init c = placed_as lines_none (placed_none c.args.at c.args.out.now (omeg
 
 pub loop-i-preserved : goal.loop-i-preserved
 loop-i-preserved c =
-    placed_as (lines_more c.args.standings.now c.loop-i.i _ c.loop-i-test.true) (placed_more (omega arith) c.loop-i.invariant c.put-standing-end.ensures)
+    placed_as (lines_more c.args.standings.now c.loop-i.i _ c.loop-i-test.true) (placed_more (omega arith) c.loop-i.invariant c.put_standing-end.ensures)
 
 pub returns : goal.returns
 returns c = placed_as (ap (standing_lines 0) (take_all c.loop-i.i c.args.standings.now c.loop-i-test.false)) c.loop-i.invariant

@@ -7,10 +7,10 @@ use Rattle.judge.proofs.centre.Centre.doubt.Goals as goal
 pub returns : goal.returns
 unfolding centre_doubt
 returns c =
-    let p = c.levels-apart.ensures.value in
-    let q = c.heads-apart.ensures.value in
-    let r = c.levels-apart-2.ensures.value in
-    let s = c.heads-apart-2.ensures.value in
-    sum_is c.product-doubt-first.result c.product-doubt-second.result _ _ c.product-doubt-first.ensures.small c.product-doubt-second.ensures.small
-    (c.product-doubt-first.ensures.value ∙ (λ i. dotted (pos (nat_abs (q i).0), pos (nat_abs (p i).0), (p i).1) ((p i).1, (q i).1, (q i).1)))
-    (c.product-doubt-second.ensures.value ∙ (λ i. dotted (pos (nat_abs (s i).0), pos (nat_abs (r i).0), (r i).1) ((r i).1, (s i).1, (s i).1)))
+    let p = c.levels_apart.ensures.value in
+    let q = c.heads_apart.ensures.value in
+    let r = c.levels_apart-2.ensures.value in
+    let s = c.heads_apart-2.ensures.value in
+    sum_is c.product_doubt-first.result c.product_doubt-second.result _ _ c.product_doubt-first.ensures.small c.product_doubt-second.ensures.small
+    (c.product_doubt-first.ensures.value ∙ (λ i. dotted (pos (nat_abs (q i).0), pos (nat_abs (p i).0), (p i).1) ((p i).1, (q i).1, (q i).1)))
+    (c.product_doubt-second.ensures.value ∙ (λ i. dotted (pos (nat_abs (s i).0), pos (nat_abs (r i).0), (r i).1) ((r i).1, (s i).1, (s i).1)))

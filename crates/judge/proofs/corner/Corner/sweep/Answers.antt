@@ -12,5 +12,5 @@ returns c =
     let q = dipped_numbers c.args.b.now in
     let r = dipped_numbers c.args.c.now in
     joined (head p) (over_second int_min p q r) (over_second int_max p q r)
-    c.head-ends-ya.result c.over-second.result c.over-second-2.result c.join.result
-    c.head-ends-ya.ensures.short.0 c.head-ends-ya.ensures.short.1 c.head-ends-ya.ensures.value c.over-second.ensures c.over-second-2.ensures c.join.ensures
+    c.head_ends-ya.result c.over_second.result c.over_second-2.result c.join.result
+    c.head_ends-ya.ensures.short.0 c.head_ends-ya.ensures.short.1 c.head_ends-ya.ensures.value c.over_second.ensures c.over_second-2.ensures c.join.ensures
