@@ -25,7 +25,7 @@ abbrev pub LoggedPoint : Float → Float → Point → Type 0
 LoggedPoint level head p = LoggedNumber level p.level × LoggedNumber head p.head
 
 abbrev pub DippedPoint : ℤ → ℕ → ℤ → ℕ → Point → Type 0
-DippedPoint level levelTolerance head headTolerance p = DippedNumber level levelTolerance p.level × DippedNumber head headTolerance p.head
+DippedPoint level level_tolerance head head_tolerance p = DippedNumber level level_tolerance p.level × DippedNumber head head_tolerance p.head
 
 -- the recorded point itself is one of them
 abbrev pub logged_sample : Float → Float → Point

@@ -2,7 +2,7 @@
 use Rattle.std.proofs.Common.{◌≡◌, ℕ, suc, ◌+◌, ◌-◌, ◌<◌, Bool, true, false, List, [], ◌∷◌, ◌++◌, map, length, get_or, sym, refl, ap, ◌∙◌, append-nil, arith, length-append, get_or-append-add}
 use mathlib.Core.List.{head-eq_of_cons-eq}
 use lib.Seq.{take-append_seam, drop-append_seam}
-use Rattle.std.specs.List.{AllByRecursion as All}
+use Rattle.std.specs.List.{AllByRecursion}
 use Rattle.std.proofs.lemmas.List.{length-map, map-append}
 use Rattle.std.proofs.ByRecursion.{All-map}
 use Rattle.plane.specs.Rings.{steps, sides}
@@ -19,11 +19,11 @@ data Falling : Bool → List Word → Type 0 where
   right : {w : Word} {ws : List Word} → w ≡ Right → Falling true ws → Falling true (w ∷ ws)
   left : {before : Bool} {w : Word} {ws : List Word} → w ≡ Left → Falling false ws → Falling before (w ∷ ws)
 
-rights_fall : (rs ls : List Word) → All (λ w. w ≡ Right) rs → Falling true ls → Falling true (rs ++ ls)
+rights_fall : (rs ls : List Word) → AllByRecursion (λ w. w ≡ Right) rs → Falling true ls → Falling true (rs ++ ls)
 rights_fall [] ls h f = f
 rights_fall (w ∷ rs) ls h f = right h.0 (rights_fall rs ls h.1 f)
 
-lefts_fall : (l : Word) (ls : List Word) (before : Bool) → All (λ w. w ≡ Left) (l ∷ ls) → Falling before (l ∷ ls)
+lefts_fall : (l : Word) (ls : List Word) (before : Bool) → AllByRecursion (λ w. w ≡ Left) (l ∷ ls) → Falling before (l ∷ ls)
 lefts_fall l [] before h = left h.0 ended
 lefts_fall l (w ∷ ls) before h = left h.0 (lefts_fall w ls false h.1)
 
@@ -62,16 +62,16 @@ rights_append (Left ∷ us) vs = rights_append us vs
 rights_append (Right ∷ us) vs = ap suc (rights_append us vs) ∙ omega arith
 rights_append (Undecided ∷ us) vs = rights_append us vs
 
-rights_all : (rs : List Word) → All (λ w. w ≡ Right) rs → rights rs ≡ length rs
+rights_all : (rs : List Word) → AllByRecursion (λ w. w ≡ Right) rs → rights rs ≡ length rs
 rights_all [] h = refl
 rights_all (w ∷ rs) h = rw h.0 (ap suc (rights_all rs h.1))
 
-rights_none : (ls : List Word) → All (λ w. w ≡ Left) ls → rights ls ≡ 0
+rights_none : (ls : List Word) → AllByRecursion (λ w. w ≡ Left) ls → rights ls ≡ 0
 rights_none [] h = refl
 rights_none (w ∷ ls) h = rw h.0 (rights_none ls h.1)
 
 -- words that say right and then left, read from elsewhere
-words_turned : (us vs rs ls : List Word) → 0 < length us → 0 < length rs → 0 < length ls → All (λ w. w ≡ Right) rs → All (λ w. w ≡ Left) ls
+words_turned : (us vs rs ls : List Word) → 0 < length us → 0 < length rs → 0 < length ls → AllByRecursion (λ w. w ≡ Right) rs → AllByRecursion (λ w. w ≡ Left) ls
     → us ++ vs ≡ rs ++ ls → (run_start (vs ++ us) ≡ length vs) × (rights (vs ++ us) ≡ length rs)
 words_turned (u ∷ us) vs (r ∷ rs) (l ∷ ls) hu hr hl hrs hls e =
     let first : u ≡ Right = head-eq_of_cons-eq e ∙ hrs.0 in
@@ -90,7 +90,7 @@ steps_length a (b ∷ l) z = ap suc (steps_length b l z)
 turned_at : {X : Type 0} (xs ys : List X) (n : ℕ) → n ≡ length xs → turned n (xs ++ ys) ≡ ys ++ xs
 turned_at xs ys n e = rw (e, take-append_seam, drop-append_seam)
 
-module _ (W : ℕ × ℕ → Word) (a b : ℕ) (removed rest : List ℕ) (hr : All (λ s. W s ≡ Right) (steps a removed b)) (hl : All (λ s. W s ≡ Left) (steps b rest a)) where
+module _ (W : ℕ × ℕ → Word) (a b : ℕ) (removed rest : List ℕ) (hr : AllByRecursion (λ s. W s ≡ Right) (steps a removed b)) (hl : AllByRecursion (λ s. W s ≡ Left) (steps b rest a)) where
   sides_turned : (us vs : List (ℕ × ℕ)) → 0 < length us → us ++ vs ≡ sides (a ∷ (removed ++ b ∷ rest))
       → (run_start (map W (vs ++ us)) ≡ length vs) × (rights (map W (vs ++ us)) ≡ suc (length removed))
   sides_turned us vs hu e =
@@ -118,6 +118,6 @@ module _ (W : ℕ × ℕ → Word) (a b : ℕ) (removed rest : List ℕ) (hr : A
   found_in ring front (y ∷ back) was is = rw was (found_at front y back is)
 
 pub found_run : (W : ℕ × ℕ → Word) (ring : List ℕ) (a b : ℕ) (removed rest : List ℕ) → Rotated ring (a ∷ (removed ++ b ∷ rest))
-    → All (λ s. W s ≡ Right) (steps a removed b) → All (λ s. W s ≡ Left) (steps b rest a)
+    → AllByRecursion (λ s. W s ≡ Right) (steps a removed b) → AllByRecursion (λ s. W s ≡ Left) (steps b rest a)
     → (turned (run_start (map W (sides ring))) ring ≡ a ∷ (removed ++ b ∷ rest)) × (rights (map W (sides ring)) ≡ suc (length removed))
 found_run W ring a b removed rest r hr hl = found_in W a b removed rest hr hl ring r.front r.back r.was r.is

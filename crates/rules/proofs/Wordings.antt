@@ -1,7 +1,7 @@
 -- What the tests of a list of words say of the sides that the words are on.
 use Rattle.std.proofs.Common.{◌≡◌, ℕ, true, false, ◌⊎◌, List, [], ◌∷◌, map, get_or, refl, ap, inl, inr, ⊎_elim, true≢false}
 use mathlib.Core.Bool.{false≢true}
-use Rattle.std.specs.List.{AllByRecursion as All}
+use Rattle.std.specs.List.{AllByRecursion}
 use Rattle.plane.specs.Rings.{In}
 use Rattle.judge.specs.declared.word.Word.{Word}
 use Rattle.judge.specs.declared.word.Word.TheVariants.{Left, Right, Undecided}
@@ -38,7 +38,7 @@ not_left_first w ws (inr e) h = inl e
 
 -- ---- the words W on sides
 module _ (W : ℕ × ℕ → Word) where
-  pub all_left_each : (ss : List (ℕ × ℕ)) → all_left (map W ss) ≡ true → All (λ s. W s ≡ Left) ss
+  pub all_left_each : (ss : List (ℕ × ℕ)) → all_left (map W ss) ≡ true → AllByRecursion (λ s. W s ≡ Left) ss
   all_left_each [] h = tt
   all_left_each (s ∷ ss) h = let t = left_first (W s) (map W ss) h in (t.0, all_left_each ss t.1)
 
@@ -50,7 +50,7 @@ module _ (W : ℕ × ℕ → Word) where
   some_undecided_one [] h = absurd (false≢true h)
   some_undecided_one (s ∷ ss) h = ⊎_elim (λ e. (s, inl refl, e)) (λ k. let t = some_undecided_one ss k in (t.0, inr t.1, t.2)) (undecided_first (W s) (map W ss) h)
 
-  pub decided : (ss : List (ℕ × ℕ)) → some_undecided (map W ss) ≡ false → All (λ s. (W s ≡ Left) ⊎ (W s ≡ Right)) ss
+  pub decided : (ss : List (ℕ × ℕ)) → some_undecided (map W ss) ≡ false → AllByRecursion (λ s. (W s ≡ Left) ⊎ (W s ≡ Right)) ss
   decided [] h = tt
   decided (s ∷ ss) h = let t = decided_first (W s) (map W ss) h in (t.0, decided ss t.1)
 
