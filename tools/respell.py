@@ -16,7 +16,6 @@ TOKEN = re.compile(r'"(?:\\.|[^"\\])*"|--[^\n]*|//[^\n]*|' + WORD)
 DEFINED = re.compile(r"^\s*(?:(?:abbrev|unfoldable|pub|data|record|ruleset)\s+)*(" + WORD + r")(?=\s+(?::|\())")
 BOUND = re.compile(r"[({]((?:" + WORD + r"\s+)+):\s")
 NAMED = re.compile(r"\blet (" + WORD + r")\s+[:=]\s")
-ANSWERS = ("Answers.antt", "Choices.antt", "Invariants.antt", "Proof.antt")
 KEPT = {"codes"}
 
 
