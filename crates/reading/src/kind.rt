@@ -17,7 +17,8 @@ pub trait Kind {
     // the word that heads the kind's page
     ghost title: { List ℕ };
 
-    fn name<'a>() -> &'a str
+    // Of the kind and not of a reading, so there is nothing to print by Display.
+    fn name() -> &'static str
         ensures { result.now ≡ title };
 
     ghost some: { (r : Self) → stands r (sample r) };
@@ -32,7 +33,7 @@ impl Kind for Logged {
 
     ghost some = { λ r. (no_distance (value_of r.level), no_distance (value_of r.head)) };
 
-    fn name<'a>() -> &'a str {
+    fn name() -> &'static str {
         "LOGGED"
     }
 }
@@ -46,7 +47,7 @@ impl Kind for Dipped {
 
     ghost some = { λ r. (within r.level r.level_tolerance, within r.head r.head_tolerance) };
 
-    fn name<'a>() -> &'a str {
+    fn name() -> &'static str {
         "DIPPED"
     }
 }

@@ -5,5 +5,6 @@ pub mod cause;
 pub mod dipped;
 pub mod kind;
 pub mod logged;
-pub mod made;
 mod made_dipped;
+mod made_logged;
+pub mod refusal;

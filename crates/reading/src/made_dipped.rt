@@ -1,10 +1,11 @@
 // How dipped readings are made, within their limits, and read again.
-ghost use Rattle.std.specs.Prelude.{◌≡◌};
+ghost use Rattle.std.specs.Prelude.{◌≡◌, Some};
 ghost use Rattle.reading.specs.Makes.{dipped_made, dipped_seen, dipped_numbers};
+ghost use Rattle.reading.specs.Printed.{dip_text};
 
-use crate::cause::Cause;
 use crate::dipped::Dipped;
-use crate::made::ReadingRefusal;
+use crate::refusal::ReadingRefusal;
+use std::fmt;
 
 impl Dipped {
     pub fn new(
@@ -16,28 +17,16 @@ impl Dipped {
         ensures { dipped_seen result ≡ dipped_made level level_tolerance head head_tolerance }
     {
         if level < -1_000_000 || level > 1_000_000 {
-            return Err(ReadingRefusal {
-                cause: Cause::DippedCoordinate,
-                field: 0,
-            });
+            return Err(ReadingRefusal::DippedLevel);
         }
         if level_tolerance > 1000 {
-            return Err(ReadingRefusal {
-                cause: Cause::Tolerance,
-                field: 1,
-            });
+            return Err(ReadingRefusal::LevelTolerance);
         }
         if head < -1_000_000 || head > 1_000_000 {
-            return Err(ReadingRefusal {
-                cause: Cause::DippedCoordinate,
-                field: 2,
-            });
+            return Err(ReadingRefusal::DippedHead);
         }
         if head_tolerance > 1000 {
-            return Err(ReadingRefusal {
-                cause: Cause::Tolerance,
-                field: 3,
-            });
+            return Err(ReadingRefusal::HeadTolerance);
         }
         Ok(Dipped {
             level,
@@ -69,5 +58,19 @@ impl Dipped {
         ensures { result ≡ (dipped_numbers self.now).3 }
     {
         self.head_tolerance
+    }
+}
+
+impl fmt::Display for Dipped {
+    ghost output = { λ r. Some (dip_text (dipped_numbers r)) };
+
+    fn fmt<W: fmt::Write>(&self, f: &mut fmt::Formatter<W>) -> fmt::Result {
+        let Dipped {
+            level,
+            level_tolerance,
+            head,
+            head_tolerance,
+        } = self;
+        write!(f, "{level} {level_tolerance} {head} {head_tolerance}")
     }
 }

@@ -1,17 +1,10 @@
-// Why a reading is not made; how logged readings are made, within their limits, and read again.
+// How logged readings are made, within their limits, and read again.
 ghost use Rattle.std.specs.Prelude.{◌≡◌};
 ghost use Rattle.reading.specs.Limits.{loggable};
 ghost use Rattle.reading.specs.Makes.{logged_made, logged_seen, logged_numbers};
 
-use crate::cause::Cause;
 use crate::logged::Logged;
-
-// A reading that was not made: why, and at which of its fields, counted from 0.
-#[derive(Clone, Copy, PartialEq, Eq, Debug)]
-pub struct ReadingRefusal {
-    pub cause: Cause,
-    pub field: usize,
-}
+use crate::refusal::ReadingRefusal;
 
 fn in_range(x: f64) -> bool
     ensures { result ≡ loggable x }
@@ -30,12 +23,11 @@ impl Logged {
     pub fn new(level: f64, head: f64) -> Result<Logged, ReadingRefusal>
         ensures { logged_seen result ≡ logged_made level head }
     {
-        let cause = Cause::LoggedNumber;
         if !in_range(level) {
-            return Err(ReadingRefusal { cause, field: 0 });
+            return Err(ReadingRefusal::LoggedLevel);
         }
         if !in_range(head) {
-            return Err(ReadingRefusal { cause, field: 1 });
+            return Err(ReadingRefusal::LoggedHead);
         }
         Ok(Logged { level, head })
     }

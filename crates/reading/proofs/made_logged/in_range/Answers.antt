@@ -3,7 +3,7 @@ use lib.Ieee.{le}
 use lib.Ieee.Compare.{differs_from_itself}
 use Rattle.reading.specs.Limits.{least, most, loggable}
 use Rattle.reading.proofs.Range.{no_nan, range_is}
-use Rattle.reading.proofs.made.in_range.Goals as goal
+use Rattle.reading.proofs.made_logged.in_range.Goals as goal
 
 pub returns-then-x : goal.returns-then-x
 returns-then-x c = no_nan ∙ ap loggable (sym (differs_from_itself c.args.x (subst T (sym c.if-x.true) tt)))
