@@ -1,4 +1,3 @@
-pub mod Bounds
-pub mod Held
 pub mod Levels
+pub mod Spreading
 pub mod Sweeps

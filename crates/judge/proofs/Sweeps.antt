@@ -1,15 +1,21 @@
--- The least and the greatest over both ends of a head, from those at each end.
-use Rattle.std.proofs.Common.{◌≡◌, ℤ, ◌∙◌, arith}
+-- What holds at both ends of a coordinate holds of the span of both.
+use Rattle.std.proofs.Common.{◌≡◌, T, ℤ, ◌∙◌, ap₂, sym, subst, arith, w32, SFits}
 use Rattle.std.specs.Int.{int_min, int_max}
+use Rattle.std.proofs.lemmas.Int.{ints}
+use Rattle.reading.specs.Limits.{reachable, tolerable}
+use Rattle.judge.specs.declared.span.Span.{Span}
 use Rattle.judge.specs.Dips.{Coordinate, low, high}
 use Rattle.judge.specs.Corner.{ends}
-use Rattle.judge.specs.Lengths.{Half}
-use Rattle.judge.proofs.Held.{held, back}
+use Rattle.judge.specs.Spans.{IsSpan}
 
-pub joined : (h : Coordinate) (f g : ℤ → ℤ) (e x y j : ℤ × ℤ) → Half e.0 → Half e.1 → e ≡ (low h, high h)
-    → x ≡ (f (held e.0), g (held e.0)) → y ≡ (f (held e.1), g (held e.1)) → j ≡ (int_min x.0 y.0, int_max x.1 y.1)
-    → ◌≡◌ {A = ℤ × ℤ} j (ends int_min h f, ends int_max h g)
-joined h f g e x y j s t v p q r =
-    let l : held e.0 ≡ low h = back e.0 (omega arith) ∙ (λ i. (v i).0) in
-    let u : held e.1 ≡ high h = back e.1 (omega arith) ∙ (λ i. (v i).1) in
-    r ∙ (λ i. (int_min (p i).0 (q i).0, int_max (p i).1 (q i).1)) ∙ (λ i. (int_min (f (l i)) (f (u i)), int_max (g (l i)) (g (u i))))
+-- the code's coordinate z is x
+module _ (x z : Coordinate) (is : z ≡ x) where
+  module _ (hv : T (reachable x.0)) (ht : T (tolerable x.1)) where
+    pub low_fits : SFits w32 (low z)
+    low_fits = subst (λ z. SFits w32 (low z)) (sym is) (grind (arith, ints))
+
+    pub high_fits : SFits w32 (high z)
+    high_fits = subst (λ z. SFits w32 (high z)) (sym is) (grind (arith, ints))
+
+  pub swept_ends : (f : (ℤ → ℤ → ℤ) → ℤ → ℤ) (p q r : Span) → IsSpan (λ pick. f pick (low z)) p → IsSpan (λ pick. f pick (high z)) q → r.least ≡ int_min p.least q.least → r.greatest ≡ int_max p.greatest q.greatest → IsSpan (λ pick. ends pick x (f pick)) r
+  swept_ends f p q r l u e g = subst (λ z. IsSpan (λ pick. ends pick z (f pick)) r) is (e ∙ ap₂ int_min l.0 u.0, g ∙ ap₂ int_max l.1 u.1)

@@ -3,7 +3,6 @@ pub mod Quick
 pub mod Dips
 pub mod Centre
 pub mod Corner
-pub mod Lengths
 pub mod Centres
 pub mod TrueDips
 pub mod Wordings
@@ -11,3 +10,4 @@ pub mod Corners
 pub mod Settings
 pub mod Boxes
 pub mod Quicks
+pub mod Spans

@@ -30,3 +30,7 @@ abbrev pub word_name : Word → List ℕ
 word_name Left = codes "LEFT"
 word_name Right = codes "RIGHT"
 word_name Undecided = codes "UNDECIDED"
+
+-- f of the numbers that three readings hold
+abbrev pub on : {R N A : Type 0} → (R → N) → (N → N → N → A) → R → R → R → A
+on numbers f a b c = f (numbers a) (numbers b) (numbers c)

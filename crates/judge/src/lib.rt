@@ -2,9 +2,10 @@
 #![tactic(auto)]
 
 pub mod centre;
+mod coordinate;
 pub mod corner;
 pub mod judge;
-mod lengths;
 pub mod quick;
+mod span;
 pub mod staged;
 pub mod word;

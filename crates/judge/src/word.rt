@@ -1,6 +1,8 @@
 // What a judge says of three readings a, b and c: on which side of the line from a to b the third lies.
-ghost use Rattle.std.specs.Prelude.{◌≡◌};
+ghost use Rattle.std.specs.Prelude.{◌≡◌, Some};
 ghost use Rattle.judge.specs.Words.{worded, word_name};
+
+use std::fmt;
 
 #[derive(Clone, Copy, PartialEq, Eq, Debug)]
 pub enum Word {
@@ -10,7 +12,7 @@ pub enum Word {
 }
 
 impl Word {
-    // The word of a judge's two tests, of which left comes first.
+    // The word of a judge's two tests, of which left comes first. A From of two bools would not say which is which.
     pub fn of(left: bool, right: bool) -> Word
         ensures { result ≡ worded left right }
     {
@@ -22,14 +24,16 @@ impl Word {
             Word::Undecided
         }
     }
+}
 
-    pub fn name(self) -> &'static str
-        ensures { result.now ≡ word_name self }
-    {
-        match self {
+impl fmt::Display for Word {
+    ghost output = { λ w. Some (word_name w) };
+
+    fn fmt<W: fmt::Write>(&self, f: &mut fmt::Formatter<W>) -> fmt::Result {
+        f.write_str(match self {
             Word::Left => "LEFT",
             Word::Right => "RIGHT",
             Word::Undecided => "UNDECIDED",
-        }
+        })
     }
 }

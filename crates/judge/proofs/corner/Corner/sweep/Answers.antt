@@ -1,16 +1,22 @@
-use Rattle.std.specs.Int.{int_min, int_max}
+use Rattle.std.proofs.Common.{◌∙◌, w64, SFits, rules}
+use Rattle.std.proofs.lemmas.Int.{to_z-of_z}
 use Rattle.reading.specs.Makes.{dipped_numbers}
-use Rattle.judge.specs.Dips.{head}
+use Rattle.judge.specs.Dips.{head, low, high}
 use Rattle.judge.specs.Corner.{over_second, swept}
-use Rattle.judge.proofs.Sweeps.{joined}
+use Rattle.judge.specs.Spans.{IsSpan}
+use Rattle.judge.proofs.Sweeps.{low_fits, high_fits, swept_ends}
 use Rattle.judge.proofs.corner.Corner.sweep.Goals as goal
 
 pub returns : goal.returns
 unfolding swept
 returns c =
-    let p = dipped_numbers c.args.a.now in
-    let q = dipped_numbers c.args.b.now in
-    let r = dipped_numbers c.args.c.now in
-    joined (head p) (over_second int_min p q r) (over_second int_max p q r)
-    c.head_ends-ya.result c.over_second.result c.over_second-2.result c.join.result
-    c.head_ends-ya.ensures.short.0 c.head_ends-ya.ensures.short.1 c.head_ends-ya.ensures.value c.over_second.ensures c.over_second-2.ensures c.join.ensures
+    let x = head (dipped_numbers c.args.a.now) in
+    let ok = c.args.a.now.ok in
+    let z = c.head-ya.result in
+    let l = low_fits x z c.head-ya.ensures ok.2 ok.3 in
+    let u = high_fits x z c.head-ya.ensures ok.2 ok.3 in
+    let at_low : IsSpan (λ pick. over_second pick (dipped_numbers c.args.a.now) (dipped_numbers c.args.b.now) (dipped_numbers c.args.c.now) (low z)) c.over_second.result = search rules in
+    let at_high : IsSpan (λ pick. over_second pick (dipped_numbers c.args.a.now) (dipped_numbers c.args.b.now) (dipped_numbers c.args.c.now) (high z)) c.over_second-2.result = search rules in
+    let s = swept_ends x z c.head-ya.ensures (λ pick. over_second pick (dipped_numbers c.args.a.now) (dipped_numbers c.args.b.now) (dipped_numbers c.args.c.now)) c.over_second.result c.over_second-2.result c.join-all.result at_low at_high c.join-all.ensures.least c.join-all.ensures.greatest in
+    let fits : SFits w64 c.join-all.result.least × SFits w64 c.join-all.result.greatest = search rules in
+    λ i. ((to_z-of_z w64 c.join-all.result.least fits.0 ∙ s.0) i, (to_z-of_z w64 c.join-all.result.greatest fits.1 ∙ s.1) i)

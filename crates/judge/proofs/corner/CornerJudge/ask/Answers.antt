@@ -1,8 +1,8 @@
-use Rattle.std.proofs.Common.{pos, sym, ◌∙◌, subst, w64, SFits, rules}
-use lib.Signed.{lt_z}
+use Rattle.std.proofs.Common.{◌≡◌, sym, subst, rules}
 use Rattle.reading.specs.contracts.kind.DippedKind.TheImpl as DippedKind
-use Rattle.judge.specs.Words.{Certain, Decided, worded}
-use Rattle.judge.proofs.Held.{whole}
+use Rattle.reading.specs.Makes.{dipped_numbers}
+use Rattle.judge.specs.Words.{Certain, Decided, on}
+use Rattle.judge.specs.Corner.{corner_word}
 use Rattle.judge.specs.Corners.{corner_certain, corner_decided}
 use Rattle.judge.proofs.corner.CornerJudge.ask.Goals as goal
 
@@ -11,12 +11,7 @@ returns c =
     let a = c.args.a.now in
     let b = c.args.b.now in
     let d = c.args.c.now in
-    let s = c.sweep-least in
-    let f : SFits w64 s.result.0 = search rules in
-    let h : SFits w64 s.result.1 = search rules in
-    let l = whole s.result.0 _ f.sfits (λ i. (s.ensures i).0) in
-    let g = whole s.result.1 _ h.sfits (λ i. (s.ensures i).1) in
-    let word = c.of.ensures ∙ (λ i. worded (lt_z (pos 0) (l i)) (lt_z (g i) (pos 0))) in
+    let word : c.of.result ≡ on dipped_numbers corner_word a b d = search rules in
     record {
       word = word;
       certain = subst (Certain (DippedKind.ghosts).stands a b d) (sym word) (corner_certain a b d);

@@ -1,0 +1,127 @@
+// The coordinates of dips and the differences of two, each a centre with a tolerance.
+ghost use Rattle.std.specs.Prelude.{◌≡◌, ◌^◌, ◌≤◌, ◌-ℤ◌, ◌*ℤ◌, unsigned_abs};
+ghost use Rattle.reading.specs.Makes.{dipped_numbers};
+ghost use Rattle.judge.specs.Dips.{level as level_of, head as head_of, low, high};
+ghost use Rattle.judge.specs.Centre.{apart, product_doubt};
+ghost use Rattle.judge.specs.Corner.{ends};
+ghost use Rattle.judge.specs.Spans.{IsSpan};
+
+use crate::span::Span;
+use reading::dipped::Dipped;
+use std::marker::Model;
+
+#[derive(Clone, Copy)]
+pub(crate) struct Coordinate {
+    centre: i32,
+    tolerance: u16,
+}
+
+impl Model for Coordinate {
+    ghost use Rattle.std.specs.Prelude.{T};
+    ghost use Rattle.reading.specs.Limits.{reachable, tolerable};
+    ghost use Rattle.judge.specs.Dips.{Coordinate as Numbers};
+
+    ghost Value = { Numbers };
+
+    ghost view = { λ x. (x.centre, x.tolerance) };
+
+    ghost invariant = { λ x. T (reachable x.centre) × T (tolerable x.tolerance) };
+
+    ghost inverse = { λ x. record { centre = x.0; tolerance = x.1 } };
+}
+
+impl Coordinate {
+    pub(crate) fn level(a: &Dipped) -> Coordinate
+        ensures { result ≡ level_of (dipped_numbers a.now) }
+    {
+        Coordinate {
+            centre: a.level(),
+            tolerance: a.level_tolerance(),
+        }
+    }
+
+    pub(crate) fn head(a: &Dipped) -> Coordinate
+        ensures { result ≡ head_of (dipped_numbers a.now) }
+    {
+        Coordinate {
+            centre: a.head(),
+            tolerance: a.head_tolerance(),
+        }
+    }
+
+    pub(crate) fn low(self) -> i32
+        ensures { result ≡ low self }
+    {
+        self.centre - i32::from(self.tolerance)
+    }
+
+    pub(crate) fn high(self) -> i32
+        ensures { result ≡ high self }
+    {
+        self.centre + i32::from(self.tolerance)
+    }
+
+    // The difference of the centres, with both tolerances together.
+    pub(crate) fn minus(self, other: Coordinate) -> Difference
+        ensures { result ≡ apart self other }
+    {
+        Difference {
+            centre: self.centre - other.centre,
+            tolerance: self.tolerance + other.tolerance,
+        }
+    }
+
+    // The least and the greatest of t·(y - z) at both ends t.
+    pub(crate) fn spread(self, y: i32, z: i32) -> Span
+        ensures value { IsSpan (λ pick. ends pick self (λ t. t *ℤ (y -ℤ z))) result }
+        ensures least_small { unsigned_abs result.least ≤ 2 ^ 60 }
+        ensures greatest_small { unsigned_abs result.greatest ≤ 2 ^ 60 }
+    {
+        let factor = i64::from(y) - i64::from(z);
+        let middle = i64::from(self.centre) * factor;
+        let reach = i64::from(self.tolerance) * factor.abs();
+        Span {
+            least: middle - reach,
+            greatest: middle + reach,
+        }
+    }
+}
+
+#[derive(Clone, Copy)]
+pub(crate) struct Difference {
+    centre: i32,
+    tolerance: u16,
+}
+
+impl Model for Difference {
+    ghost use Rattle.std.specs.Prelude.{◌^◌, ◌≤◌, unsigned_abs};
+    ghost use Rattle.judge.specs.Dips.{Coordinate as Numbers};
+
+    ghost Value = { Numbers };
+
+    ghost view = { λ x. (x.centre, x.tolerance) };
+
+    ghost invariant = { λ x. unsigned_abs x.centre ≤ 2 ^ 22 };
+
+    ghost inverse = { λ x. record { centre = x.0; tolerance = x.1 } };
+}
+
+impl Difference {
+    // The product of the centres.
+    pub(crate) fn times(self, other: Difference) -> i64
+        ensures value { result ≡ self.0 *ℤ other.0 }
+        ensures small { unsigned_abs result ≤ 2 ^ 44 }
+    {
+        i64::from(self.centre) * i64::from(other.centre)
+    }
+
+    // How far the product of two differences may lie from that of their centres.
+    pub(crate) fn doubt(self, other: Difference) -> u64
+        ensures value { result ≡ product_doubt self other }
+        ensures small { result ≤ 2 ^ 46 }
+    {
+        u64::from(other.centre.unsigned_abs()) * u64::from(self.tolerance)
+            + u64::from(self.centre.unsigned_abs()) * u64::from(other.tolerance)
+            + u64::from(self.tolerance) * u64::from(other.tolerance)
+    }
+}
