@@ -1,3 +1,2 @@
-pub mod Figures
 pub mod Lines
-pub mod Places
+pub mod Sheets

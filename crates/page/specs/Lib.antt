@@ -1,2 +1,3 @@
 pub mod Placing
+pub mod Sheet
 pub mod Text
