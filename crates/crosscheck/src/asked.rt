@@ -4,7 +4,7 @@ use judge::judge::Judge;
 use judge::quick::Quick;
 use judge::word::Word;
 use reading::logged::Logged;
-use reading::made::ReadingRefusal;
+use reading::refusal::ReadingRefusal;
 use std::num::f64_from_bits_with_nan;
 
 #[derive(Drop)]
@@ -20,6 +20,7 @@ fn reading(level: u64, head: u64) -> Result<Logged, ReadingRefusal> {
 }
 
 impl Asked {
+    // Asks the judge, and converts nothing, so no TryFrom.
     pub(crate) fn of(triple: &Triple) -> Result<Asked, ReadingRefusal> {
         let a = reading(triple.level.a, triple.head.a)?;
         let b = reading(triple.level.b, triple.head.b)?;

@@ -1,7 +1,6 @@
 // The limits of a logged reading: which numbers are taken, and at which field another is refused.
-use reading::cause::Cause;
 use reading::logged::Logged;
-use reading::made::ReadingRefusal;
+use reading::refusal::ReadingRefusal;
 use std::fmt;
 use std::num::{f64_from_bits_with_nan, f64_to_bits_with_nan};
 
@@ -42,67 +41,49 @@ const REFUSED: [u64; 16] = [
 // How many of the numbers are treated as they should be.
 #[derive(Drop)]
 pub(crate) struct Limits {
-    taken: u64,
-    refused: u64,
+    taken: usize,
+    refused: usize,
 }
 
 // Taken as a level and as a head, and read again as it was.
 fn is_taken(x: f64) -> bool {
-    let Ok(level) = Logged::new(x, 1.0) else {
-        return false;
-    };
-    let Ok(head) = Logged::new(1.0, x) else {
-        return false;
-    };
     let bits = f64_to_bits_with_nan(x);
-    f64_to_bits_with_nan(level.level()) == bits && f64_to_bits_with_nan(head.head()) == bits
-}
-
-fn refusal(field: usize) -> ReadingRefusal {
-    let cause = Cause::LoggedNumber;
-    ReadingRefusal { cause, field }
+    match (Logged::new(x, 1.0), Logged::new(1.0, x)) {
+        (Ok(level), Ok(head)) => f64_to_bits_with_nan(level.level()) == bits
+            && f64_to_bits_with_nan(head.head()) == bits,
+        _ => false,
+    }
 }
 
 // Refused as a level, as a head, and as a level where the head is bad too.
 fn is_refused(x: f64) -> bool {
     match (Logged::new(x, 1.0), Logged::new(1.0, x), Logged::new(x, x)) {
-        (Err(level), Err(head), Err(both)) => level == refusal(0)
-            && head == refusal(1)
-            && both == refusal(0),
+        (Err(level), Err(head), Err(both)) => level == ReadingRefusal::LoggedLevel
+            && head == ReadingRefusal::LoggedHead
+            && both == ReadingRefusal::LoggedLevel,
         _ => false,
     }
 }
 
-fn count_taken() -> u64 {
-    let mut count = 0u64;
-    for bits in TAKEN {
-        if is_taken(f64_from_bits_with_nan(bits)) {
-            count = count.saturating_add(1);
-        }
-    }
-    count
-}
-
-fn count_refused() -> u64 {
-    let mut count = 0u64;
-    for bits in REFUSED {
-        if is_refused(f64_from_bits_with_nan(bits)) {
-            count = count.saturating_add(1);
-        }
-    }
-    count
+fn count<F: Fn(f64) -> bool>(numbers: &[u64], holds: F) -> usize
+    requires { F.IsAlwaysCallable holds }
+{
+    numbers
+        .iter()
+        .filter(|bits| holds(f64_from_bits_with_nan(**bits)))
+        .count()
 }
 
 impl Limits {
     pub(crate) fn tried() -> Limits {
         Limits {
-            taken: count_taken(),
-            refused: count_refused(),
+            taken: count(&TAKEN, is_taken),
+            refused: count(&REFUSED, is_refused),
         }
     }
 
     pub(crate) fn hold(&self) -> bool {
-        self.taken == TAKEN.len() as u64 && self.refused == REFUSED.len() as u64
+        self.taken == TAKEN.len() && self.refused == REFUSED.len()
     }
 }
 

@@ -1,13 +1,14 @@
 // What was compared so far, and how often both sides agree.
 use crate::asked::Asked;
-use crate::steps::Steps;
+use crate::steps::{NAMES, Steps};
 use crate::tally::{Tally, count};
 use crate::triples::Triple;
+use crate::twice::Twice;
 use judge::word::Word;
 use std::fmt;
 
 // How often the judge's own answers agree with those in whole numbers.
-#[derive(Drop)]
+#[derive(Default, Drop)]
 pub(crate) struct Answers {
     pub(crate) difference: u64,
     pub(crate) weight: u64,
@@ -25,14 +26,6 @@ pub(crate) struct Report {
 }
 
 impl Answers {
-    const NONE: Answers = Answers {
-        difference: 0,
-        weight: 0,
-        allowance: 0,
-        word: 0,
-        on_edge: 0,
-    };
-
     fn add(&mut self, asked: &Asked, steps: &Steps) {
         count(
             &mut self.difference,
@@ -66,14 +59,8 @@ impl Report {
     pub(crate) fn new() -> Report {
         Report {
             triples: 0,
-            steps: [Tally::NONE; 15],
-            answers: Answers::NONE,
-        }
-    }
-
-    fn add_steps(&mut self, steps: &Steps) {
-        for i in 0..15 {
-            self.steps[i].add(steps.all[i]);
+            steps: NAMES.map(Tally::new),
+            answers: Answers::default(),
         }
     }
 
@@ -81,26 +68,27 @@ impl Report {
     pub(crate) fn add(&mut self, triple: &Triple) -> Option<Word> {
         count(&mut self.triples, true);
         let steps = Steps::of(triple);
-        self.add_steps(&steps);
+        for (tally, step) in self.steps.iter_mut().zip(steps.all.map(Twice::outcome)) {
+            tally.add(step);
+        }
         let asked = Asked::of(triple).ok()?;
         self.answers.add(&asked, &steps);
         Some(asked.word)
     }
 
-    fn different(&self, agreed: u64) -> u64 {
-        self.triples.saturating_sub(agreed)
-    }
-
     // How often the two sides differ.
     pub(crate) fn differences(&self) -> u64 {
-        let mut sum = self
-            .different(self.answers.difference)
-            .saturating_add(self.different(self.answers.weight))
-            .saturating_add(self.different(self.answers.allowance))
-            .saturating_add(self.different(self.answers.word));
-        for i in 0..15 {
-            sum = sum.saturating_add(self.different(self.steps[i].agreed));
-        }
-        sum
+        let answers = &self.answers;
+        self.steps
+            .iter()
+            .map(|tally| tally.agreed)
+            .chain([
+                answers.difference,
+                answers.weight,
+                answers.allowance,
+                answers.word,
+            ])
+            .map(|agreed| self.triples.saturating_sub(agreed))
+            .fold(0, u64::saturating_add)
     }
 }

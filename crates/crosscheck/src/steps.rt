@@ -33,59 +33,29 @@ pub(crate) struct Steps {
     pub(crate) all: [Twice; 15],
 }
 
-// One coordinate of the readings a, b and c.
-#[derive(Clone, Copy)]
-struct Coordinates {
-    a: Twice,
-    b: Twice,
-    c: Twice,
-}
-
-impl Coordinates {
-    fn of(axis: Axis) -> Coordinates {
-        Coordinates {
-            a: Twice::from_bits(axis.a),
-            b: Twice::from_bits(axis.b),
-            c: Twice::from_bits(axis.c),
-        }
-    }
-
-    fn magnitudes(self) -> Coordinates {
-        Coordinates {
-            a: self.a.magnitude(),
-            b: self.b.magnitude(),
-            c: self.c.magnitude(),
-        }
-    }
-}
-
-fn to_difference(x: Coordinates, y: Coordinates) -> [Twice; 7] {
-    let p = x.a.minus(x.c);
-    let q = y.b.minus(y.c);
-    let r = x.b.minus(x.c);
-    let s = y.a.minus(y.c);
-    let pq = p.times(q);
-    let rs = r.times(s);
-    [p, q, r, s, pq, rs, pq.minus(rs)]
-}
-
-fn to_weight(x: Coordinates, y: Coordinates) -> [Twice; 7] {
-    let p = x.a.plus(x.c);
-    let q = y.b.plus(y.c);
-    let r = x.b.plus(x.c);
-    let s = y.a.plus(y.c);
-    let pq = p.times(q);
-    let rs = r.times(s);
-    [p, q, r, s, pq, rs, pq.plus(rs)]
+// The operations of pq - rs, with `join` in place of each minus.
+fn operations<F: Fn(Twice, Twice) -> Twice>(x: Axis<Twice>, y: Axis<Twice>, join: F) -> [Twice; 7]
+    requires { F.IsAlwaysCallable join }
+{
+    let p = join(x.a, x.c);
+    let q = join(y.b, y.c);
+    let r = join(x.b, x.c);
+    let s = join(y.a, y.c);
+    let pq = p * q;
+    let rs = r * s;
+    [p, q, r, s, pq, rs, join(pq, rs)]
 }
 
 impl Steps {
+    // Computes them, and converts nothing, so no From.
     pub(crate) fn of(triple: &Triple) -> Steps {
-        let x = Coordinates::of(triple.level);
-        let y = Coordinates::of(triple.head);
-        let [p, q, r, s, pq, rs, d] = to_difference(x, y);
-        let [p2, q2, r2, s2, pq2, rs2, t] = to_weight(x.magnitudes(), y.magnitudes());
-        let e = Twice::from_bits(COEFFICIENT).times(t);
+        let x = triple.level.map(Twice::from_bits);
+        let y = triple.head.map(Twice::from_bits);
+        let [p, q, r, s, pq, rs, d] = operations(x, y, |x, y| x - y);
+        let x = x.map(Twice::magnitude);
+        let y = y.map(Twice::magnitude);
+        let [p2, q2, r2, s2, pq2, rs2, t] = operations(x, y, |x, y| x + y);
+        let e = Twice::from_bits(COEFFICIENT) * t;
         Steps {
             difference: d,
             weight: t,
@@ -96,20 +66,13 @@ impl Steps {
 
     // Whether D is E or -E, so that a word rests on the sharpness of a comparison.
     pub(crate) fn on_edge(&self) -> bool {
-        let size = self.difference.machine.abs();
-        self.allowance.has_bits_of(size)
+        self.allowance.has_bits_of(self.difference.machine.abs())
     }
 
     // The word of D and E in whole numbers.
     pub(crate) fn word(&self) -> Option<Word> {
         let d = self.difference.whole?;
         let e = self.allowance.whole?;
-        Some(if d.exceeds(e) {
-            Word::Left
-        } else if d.negated().exceeds(e) {
-            Word::Right
-        } else {
-            Word::Undecided
-        })
+        Some(Word::of(d.exceeds(e), d.negated().exceeds(e)))
     }
 }

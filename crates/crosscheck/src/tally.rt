@@ -1,12 +1,13 @@
 // Counts of what was compared, each a row of the page.
-use crate::twice::Twice;
+use crate::twice::Outcome;
 use crate::whole::Rounding;
 use judge::word::Word;
 use std::fmt;
 
 // One operation: how often both sides agree, and how often the result was rounded.
-#[derive(Clone, Copy)]
+#[derive(Drop)]
 pub(crate) struct Tally {
+    name: &'static str,
     pub(crate) agreed: u64,
     inexact: u64,
     ties_down: u64,
@@ -14,7 +15,7 @@ pub(crate) struct Tally {
 }
 
 // How often each word was said.
-#[derive(Drop)]
+#[derive(Default, Drop)]
 pub(crate) struct Words {
     left: u64,
     right: u64,
@@ -22,57 +23,48 @@ pub(crate) struct Words {
 }
 
 pub(crate) fn count(counter: &mut u64, here: bool) {
-    if here {
-        *counter = counter.saturating_add(1);
-    }
+    *counter = counter.saturating_add(u64::from(here));
 }
 
 impl Tally {
-    pub(crate) const NONE: Tally = Tally {
-        agreed: 0,
-        inexact: 0,
-        ties_down: 0,
-        ties_up: 0,
-    };
-
-    pub(crate) fn add(&mut self, step: Twice) {
-        count(&mut self.agreed, step.has_bits_of(step.machine));
-        let Some(whole) = step.whole else {
-            return;
-        };
-        match whole.rounding {
-            Rounding::Exact => return,
-            Rounding::Nearer => {}
-            Rounding::TieDown => count(&mut self.ties_down, true),
-            Rounding::TieUp => count(&mut self.ties_up, true),
+    pub(crate) fn new(name: &'static str) -> Tally {
+        Tally {
+            name,
+            agreed: 0,
+            inexact: 0,
+            ties_down: 0,
+            ties_up: 0,
         }
-        count(&mut self.inexact, true);
+    }
+
+    pub(crate) fn add(&mut self, step: Outcome) {
+        let rounding = step.rounding;
+        count(&mut self.agreed, step.agrees);
+        count(
+            &mut self.inexact,
+            rounding.is_some_and(|how| how != Rounding::Exact),
+        );
+        count(&mut self.ties_down, rounding == Some(Rounding::TieDown));
+        count(&mut self.ties_up, rounding == Some(Rounding::TieUp));
     }
 }
 
 impl fmt::Display for Tally {
     fn fmt<W: fmt::Write>(&self, f: &mut fmt::Formatter<W>) -> fmt::Result {
+        let name = self.name;
         let agreed = self.agreed;
         let inexact = self.inexact;
         let down = self.ties_down;
         let up = self.ties_up;
-        write!(f, "{agreed:>10}{inexact:>10}{down:>11}{up:>10}")
+        write!(f, "{name:<16}{agreed:>10}{inexact:>10}{down:>11}{up:>10}")
     }
 }
 
 impl Words {
-    pub(crate) const NONE: Words = Words {
-        left: 0,
-        right: 0,
-        undecided: 0,
-    };
-
     pub(crate) fn add(&mut self, word: Word) {
-        match word {
-            Word::Left => count(&mut self.left, true),
-            Word::Right => count(&mut self.right, true),
-            Word::Undecided => count(&mut self.undecided, true),
-        }
+        count(&mut self.left, word == Word::Left);
+        count(&mut self.right, word == Word::Right);
+        count(&mut self.undecided, word == Word::Undecided);
     }
 }
 

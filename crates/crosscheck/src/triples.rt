@@ -5,36 +5,49 @@ use crate::source::Source;
 
 // One coordinate of the readings a, b and c.
 #[derive(Clone, Copy)]
-pub(crate) struct Axis {
-    pub(crate) a: u64,
-    pub(crate) b: u64,
-    pub(crate) c: u64,
+pub(crate) struct Axis<T> {
+    pub(crate) a: T,
+    pub(crate) b: T,
+    pub(crate) c: T,
 }
 
 #[derive(Drop)]
 pub(crate) struct Triple {
-    pub(crate) level: Axis,
-    pub(crate) head: Axis,
+    pub(crate) level: Axis<u64>,
+    pub(crate) head: Axis<u64>,
 }
 
-#[derive(Clone, Copy)]
-pub(crate) enum Family {
-    // any numbers of the range, and zero
-    Random,
-    // the ends of the range, their neighbours inside, 1 and zero
-    Extremes,
-    // sums and differences of two coordinates, mostly halfway between two numbers
-    SumTies,
-    // products, many of them halfway between two numbers
-    ProductTies,
-    // D and T, many of them halfway between two numbers
-    LastTies,
-    // levels a few units in the last place apart, and heads too, or any
-    Near,
-    // c on the line through a and b, but for a few steps of the grid that they stand on
-    Line,
-    // D a few units in the last place from E or -E, or equal to it
-    Edge,
+impl<T> Axis<T> {
+    fn drawn<F: FnMut() -> T>(mut draw: F) -> Axis<T>
+        requires { F.IsAlwaysCallable draw }
+    {
+        Axis {
+            a: draw(),
+            b: draw(),
+            c: draw(),
+        }
+    }
+
+    pub(crate) fn map<U, F: FnMut(T) -> U>(self, mut f: F) -> Axis<U>
+        requires { F.IsAlwaysCallable f }
+    {
+        Axis {
+            a: f(self.a),
+            b: f(self.b),
+            c: f(self.c),
+        }
+    }
+}
+
+impl Triple {
+    fn drawn<F: FnMut() -> Axis<u64>>(mut draw: F) -> Triple
+        requires { F.IsAlwaysCallable draw }
+    {
+        Triple {
+            level: draw(),
+            head: draw(),
+        }
+    }
 }
 
 // 0, 1, 2^-20 and the next number above, 2^20 and the next number below.
@@ -71,15 +84,19 @@ fn number(power: u64, digits: u64) -> u64
     (1003 + power) * FRACTIONS + digits % FRACTIONS
 }
 
-// digits / 2^down, or zero where that is too small for a reading.
-fn quotient(digits: u64, down: u32) -> u64
-    requires { (digits < 2 ^ 53) × (33 ≤ down) }
+// digits / 2^(33 + down), or zero where that is too small for a reading.
+fn quotient(digits: u64, down: u8) -> u64
+    requires { digits < 2 ^ 53 }
 {
     let zeros = digits.leading_zeros();
-    match (83 - zeros).checked_sub(down) {
+    match 50u32.checked_sub(zeros + u32::from(down)) {
         Some(power) if power < 40 => number(u64::from(power), digits << zeros >> 11),
         _ => 0,
     }
+}
+
+fn signed(source: &mut Source, size: u64) -> u64 {
+    with_sign(source.coin(), size)
 }
 
 fn random_number(source: &mut Source) -> u64 {
@@ -87,52 +104,52 @@ fn random_number(source: &mut Source) -> u64 {
         return 0;
     }
     let size = number(source.below(40), source.draw());
-    with_sign(source.coin(), size)
+    signed(source, size)
 }
 
-fn random_axis(source: &mut Source) -> Axis {
-    Axis {
-        a: random_number(source),
-        b: random_number(source),
-        c: random_number(source),
-    }
+fn random_axis(source: &mut Source) -> Axis<u64> {
+    Axis::drawn(|| random_number(source))
+}
+
+// Any numbers of the range, and zero.
+pub(crate) fn random(source: &mut Source) -> Triple {
+    Triple::drawn(|| random_axis(source))
 }
 
 fn extreme(source: &mut Source) -> u64 {
     let size = EXTREMES[source.below(6) as usize];
-    with_sign(source.coin(), size)
+    signed(source, size)
 }
 
-fn extreme_axis(source: &mut Source) -> Axis {
-    Axis {
-        a: extreme(source),
-        b: extreme(source),
-        c: extreme(source),
-    }
+// The ends of the range, their neighbours inside, 1 and zero.
+pub(crate) fn extremes(source: &mut Source) -> Triple {
+    Triple::drawn(|| Axis::drawn(|| extreme(source)))
 }
 
 // c ends at half a unit in the last place of a and b.
-fn tie_axis(source: &mut Source) -> Axis {
+fn tie_axis(source: &mut Source) -> Axis<u64> {
     let power = source.below(20);
     let zeros = source.below(20);
     let end = (source.draw() >> zeros | 1) << zeros;
     let a = number(power + zeros + 1, source.draw());
     let b = number(power + zeros + 1, source.draw());
-    Axis {
-        a: with_sign(source.coin(), a),
-        b: with_sign(source.coin(), b),
-        c: with_sign(source.coin(), number(power, end)),
-    }
+    let c = number(power, end);
+    Axis { a, b, c }.map(|size| signed(source, size))
+}
+
+// Sums and differences of two coordinates, mostly halfway between two numbers.
+pub(crate) fn sum_ties(source: &mut Source) -> Triple {
+    Triple::drawn(|| tie_axis(source))
 }
 
 // An odd number of 27 digits, times a power of two.
 fn half_long(source: &mut Source) -> u64 {
     let size = number(source.below(40), (source.draw() | 1) << 26);
-    with_sign(source.coin(), size)
+    signed(source, size)
 }
 
 // The product of two odd numbers of 27 digits has 53 digits or is halfway between two such.
-fn half_long_axis(source: &mut Source) -> Axis {
+fn half_long_axis(source: &mut Source) -> Axis<u64> {
     Axis {
         a: half_long(source),
         b: half_long(source),
@@ -140,8 +157,14 @@ fn half_long_axis(source: &mut Source) -> Axis {
     }
 }
 
-// xa · yb has 53 digits or fewer, and xb · ya ends at half a unit in the 53rd.
-fn last_ties(source: &mut Source) -> Triple {
+// Products, many of them halfway between two numbers.
+pub(crate) fn product_ties(source: &mut Source) -> Triple {
+    Triple::drawn(|| half_long_axis(source))
+}
+
+// D and T, many of them halfway between two numbers: xa · yb has 53 digits or fewer, and xb · ya ends at half a unit
+// in the 53rd.
+pub(crate) fn last_ties(source: &mut Source) -> Triple {
     let across = source.below(20);
     let along = source.below(20);
     let xa = number(across + 20, (source.draw() | 1) << 26);
@@ -150,30 +173,26 @@ fn last_ties(source: &mut Source) -> Triple {
     let ya = number(along + 7, 0);
     Triple {
         level: Axis {
-            a: with_sign(source.coin(), xa),
-            b: with_sign(source.coin(), xb),
+            a: signed(source, xa),
+            b: signed(source, xb),
             c: 0,
         },
         head: Axis {
-            a: with_sign(source.coin(), ya),
-            b: with_sign(source.coin(), yb),
+            a: signed(source, ya),
+            b: signed(source, yb),
             c: 0,
         },
     }
 }
 
-fn near_axis(source: &mut Source) -> Axis {
+fn near_axis(source: &mut Source) -> Axis<u64> {
     let size = number(source.below(39), source.draw());
-    let first = with_sign(source.coin(), size);
-    Axis {
-        a: first.wrapping_add(source.below(17)),
-        b: first.wrapping_add(source.below(17)),
-        c: first.wrapping_add(source.below(17)),
-    }
+    let first = signed(source, size);
+    Axis::drawn(|| first.wrapping_add(source.below(17)))
 }
 
-// Levels close together; heads too, or any.
-fn near(source: &mut Source) -> Triple {
+// Levels a few units in the last place apart, and heads too, or any.
+pub(crate) fn near(source: &mut Source) -> Triple {
     let level = near_axis(source);
     let head = if source.coin() {
         near_axis(source)
@@ -183,9 +202,9 @@ fn near(source: &mut Source) -> Triple {
     Triple { level, head }
 }
 
-// (place - 2^52) / 2^down
-fn placed(place: u64, down: u32) -> u64
-    requires { (place ≤ 2 ^ 53) × (33 ≤ down) }
+// (place - 2^52) / 2^(33 + down)
+fn placed(place: u64, down: u8) -> u64
+    requires { place ≤ 2 ^ 53 }
 {
     if place < FRACTIONS {
         with_sign(true, quotient(FRACTIONS - place, down))
@@ -195,8 +214,9 @@ fn placed(place: u64, down: u32) -> u64
 }
 
 // a and b by their places, and c at part / 256 of the way from a to b, moved by off - 16.
-fn line_axis(source: &mut Source, part: u64, off: u64, down: u32) -> Axis
-    requires { (part ≤ 256) × ((off ≤ 32) × (33 ≤ down)) }
+fn line_axis(source: &mut Source, part: u64, off: u64, down: u8) -> Axis<u64>
+    requires part { part ≤ 256 }
+    requires off { off ≤ 32 }
 {
     let a = source.below(STEPS);
     let b = source.below(STEPS);
@@ -208,18 +228,20 @@ fn line_axis(source: &mut Source, part: u64, off: u64, down: u32) -> Axis
     }
 }
 
-fn line(source: &mut Source) -> Triple {
+// c on the line through a and b, but for a few steps of the grid that they stand on.
+pub(crate) fn line(source: &mut Source) -> Triple {
     let part = source.below(257);
     let off = source.below(33);
-    let down = 33 + source.below(16) as u32;
+    let down = source.below(16) as u8;
     Triple {
         level: line_axis(source, part, 16, down),
         head: line_axis(source, part, off, down),
     }
 }
 
-// At levels 1 + 3/2^52, 1 - 6/2^53 and 0 and heads 1, 1 and 0, both D and E are 12/2^53.
-fn edge(source: &mut Source) -> Triple {
+// D a few units in the last place from E or -E, or equal to it: at levels 1 + 3/2^52, 1 - 6/2^53 and 0 and heads 1, 1
+// and 0, both are 12/2^53.
+pub(crate) fn edge(source: &mut Source) -> Triple {
     let one = number(1 + source.below(39), 0);
     let above = one.wrapping_add(1 + source.below(5));
     let below = one.wrapping_sub(4 + source.below(5));
@@ -236,55 +258,5 @@ fn edge(source: &mut Source) -> Triple {
             b: head,
             c: 0,
         },
-    }
-}
-
-impl Family {
-    pub(crate) const ALL: [Family; 8] = [
-        Family::Random,
-        Family::Extremes,
-        Family::SumTies,
-        Family::ProductTies,
-        Family::LastTies,
-        Family::Near,
-        Family::Line,
-        Family::Edge,
-    ];
-
-    pub(crate) fn name(self) -> &'static str {
-        match self {
-            Family::Random => "random",
-            Family::Extremes => "extremes",
-            Family::SumTies => "sum ties",
-            Family::ProductTies => "product ties",
-            Family::LastTies => "D and T ties",
-            Family::Near => "near",
-            Family::Line => "on a line",
-            Family::Edge => "D at E",
-        }
-    }
-
-    // How many triples are drawn.
-    pub(crate) fn size(self) -> u64 {
-        match self {
-            Family::Random => 30_000,
-            Family::Extremes | Family::Line => 20_000,
-            Family::SumTies | Family::ProductTies | Family::LastTies => 10_000,
-            Family::Near | Family::Edge => 10_000,
-        }
-    }
-
-    pub(crate) fn triple(self, source: &mut Source) -> Triple {
-        let (level, head) = match self {
-            Family::Random => (random_axis(source), random_axis(source)),
-            Family::Extremes => (extreme_axis(source), extreme_axis(source)),
-            Family::SumTies => (tie_axis(source), tie_axis(source)),
-            Family::ProductTies => (half_long_axis(source), half_long_axis(source)),
-            Family::LastTies => return last_ties(source),
-            Family::Near => return near(source),
-            Family::Line => return line(source),
-            Family::Edge => return edge(source),
-        };
-        Triple { level, head }
     }
 }

@@ -1,6 +1,7 @@
 // A number computed twice: by the machine in binary64, and in whole numbers.
-use crate::whole::Whole;
+use crate::whole::{Rounding, Whole};
 use std::num::{f64_from_bits_with_nan, f64_to_bits_with_nan};
+use std::ops::{Add, Mul, Sub};
 
 #[derive(Clone, Copy)]
 pub(crate) struct Twice {
@@ -9,16 +10,11 @@ pub(crate) struct Twice {
     pub(crate) whole: Option<Whole>,
 }
 
-fn sum(x: Option<Whole>, y: Option<Whole>) -> Option<Whole> {
-    x?.plus(y?)
-}
-
-fn difference(x: Option<Whole>, y: Option<Whole>) -> Option<Whole> {
-    x?.minus(y?)
-}
-
-fn product(x: Option<Whole>, y: Option<Whole>) -> Option<Whole> {
-    x?.times(y?)
+// What a tally counts of a number. It holds no Whole: a `&mut Tally` beside one in an iterator gets no proof.
+#[derive(Clone, Copy)]
+pub(crate) struct Outcome {
+    pub(crate) agrees: bool,
+    pub(crate) rounding: Option<Rounding>,
 }
 
 impl Twice {
@@ -29,42 +25,61 @@ impl Twice {
         }
     }
 
-    pub(crate) fn plus(self, other: Twice) -> Twice {
+    // One operation, done by the machine and in whole numbers.
+    fn joined<M, W>(self, other: Twice, machine: M, whole: W) -> Twice
+    where
+        M: FnOnce(f64, f64) -> f64,
+        W: FnOnce(Whole, Whole) -> Option<Whole>,
+        requires machine { M.IsAlwaysCallable machine }
+        requires whole { W.IsAlwaysCallable whole }
+    {
         Twice {
-            machine: self.machine + other.machine,
-            whole: sum(self.whole, other.whole),
-        }
-    }
-
-    pub(crate) fn minus(self, other: Twice) -> Twice {
-        Twice {
-            machine: self.machine - other.machine,
-            whole: difference(self.whole, other.whole),
-        }
-    }
-
-    pub(crate) fn times(self, other: Twice) -> Twice {
-        Twice {
-            machine: self.machine * other.machine,
-            whole: product(self.whole, other.whole),
+            machine: machine(self.machine, other.machine),
+            whole: self.whole.zip(other.whole).and_then(|(x, y)| whole(x, y)),
         }
     }
 
     pub(crate) fn magnitude(self) -> Twice {
         Twice {
             machine: self.machine.abs(),
-            whole: match self.whole {
-                Some(whole) => Some(whole.magnitude()),
-                None => None,
-            },
+            whole: self.whole.map(Whole::magnitude),
         }
     }
 
     // Whether the number in whole numbers has the bits of x.
     pub(crate) fn has_bits_of(self, x: f64) -> bool {
-        match self.whole {
-            Some(whole) => whole.to_bits() == f64_to_bits_with_nan(x),
-            None => false,
+        self.whole
+            .is_some_and(|whole| whole.to_bits() == f64_to_bits_with_nan(x))
+    }
+
+    pub(crate) fn outcome(self) -> Outcome {
+        Outcome {
+            agrees: self.has_bits_of(self.machine),
+            rounding: self.whole.map(|whole| whole.rounding),
         }
+    }
+}
+
+impl Add for Twice {
+    type Output = Twice;
+
+    fn add(self, other: Twice) -> Twice {
+        self.joined(other, |x, y| x + y, Whole::plus)
+    }
+}
+
+impl Sub for Twice {
+    type Output = Twice;
+
+    fn sub(self, other: Twice) -> Twice {
+        self.joined(other, |x, y| x - y, Whole::minus)
+    }
+}
+
+impl Mul for Twice {
+    type Output = Twice;
+
+    fn mul(self, other: Twice) -> Twice {
+        self.joined(other, |x, y| x * y, Whole::times)
     }
 }

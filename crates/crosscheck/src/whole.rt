@@ -1,6 +1,5 @@
 // Binary64 in whole numbers: zero and the normal numbers, rounded to nearest, ties to even.
 ghost use Rattle.std.specs.Prelude.{◌≡◌, ◌+◌, ◌*◌, ◌%◌, ◌^◌, ◌<◌, ◌≤◌, false, not, pos, ◌≤ℤ◌, ◌<ℤ◌, IfSome, unsigned_abs};
-ghost use Rattle.crosscheck.specs.Patterns.{pattern};
 
 // 2^52, the least significand of a number other than zero.
 const LEAST: u64 = 0x10_0000_0000_0000;
@@ -12,7 +11,7 @@ const ROOM: u128 = 0x1_0000_0000_0000_0000;
 const UNIT: u128 = 0x800_0000_0000_0000_0000;
 
 // How a number came by its 53 digits.
-#[derive(Clone, Copy)]
+#[derive(Clone, Copy, PartialEq, Eq)]
 pub(crate) enum Rounding {
     Exact,
     // off, and not halfway between two numbers
@@ -29,13 +28,16 @@ pub(crate) struct Whole {
     significand: u64,
     exponent: i32,
     pub(crate) rounding: Rounding,
-    ghost ok: { (significand < 2 ^ 53) × (pos 0 ≤ℤ exponent) × (exponent <ℤ pos 2047) },
+    ghost digits: { significand < 2 ^ 53 },
+    ghost least: { pos 0 ≤ℤ exponent },
+    ghost greatest: { exponent <ℤ pos 2047 },
 }
 
 // The 53 leading digits of 128, the first of which is not 0, and how they were rounded.
 fn leading(digits: u128) -> (u64, Rounding)
     ensures bound { result.0 ≤ 2 ^ 53 }
-    ensures nearest { (2 * digits ≤ 2 ^ 76 * result.0 + 2 ^ 75) × (2 ^ 76 * result.0 ≤ 2 * digits + 2 ^ 75) }
+    ensures near_below { 2 * digits ≤ 2 ^ 76 * result.0 + 2 ^ 75 }
+    ensures near_above { 2 ^ 76 * result.0 ≤ 2 * digits + 2 ^ 75 }
     ensures even { 2 * digits % 2 ^ 76 ≡ 2 ^ 75 → result.0 % 2 ≡ 0 }
 {
     let kept = (digits / UNIT) as u64;
@@ -55,18 +57,18 @@ fn leading(digits: u128) -> (u64, Rounding)
 
 // digits / 2^by, its last digit 1 where digits were lost.
 fn lowered(digits: u128, by: u32) -> u128 {
-    if digits == 0 {
-        return 0;
+    match digits.checked_shr(by) {
+        Some(kept) if kept << by == digits => kept,
+        Some(kept) => kept | 1,
+        None => u128::from(digits != 0),
     }
-    let Some(kept) = digits.checked_shr(by) else {
-        return 1;
-    };
-    if kept << by == digits { kept } else { kept | 1 }
 }
 
 impl Whole {
+    ghost use Rattle.crosscheck.specs.Patterns.{pattern, bits_of};
+
     fn zero(negative: bool) -> Whole
-        ensures { pattern result.negative result.significand result.exponent ≡ pattern negative 0 (pos 0) }
+        ensures { bits_of result ≡ pattern negative 0 (pos 0) }
     {
         Whole {
             negative,
@@ -79,7 +81,7 @@ impl Whole {
     // None beyond the normal numbers.
     fn normal(negative: bool, significand: u64, exponent: i32, rounding: Rounding) -> Option<Whole>
         requires { significand < 2 ^ 53 }
-        ensures { IfSome result (λ w. pattern w.negative w.significand w.exponent ≡ pattern negative significand exponent) }
+        ensures { IfSome result (λ w. bits_of w ≡ pattern negative significand exponent) }
     {
         if exponent < 1 || exponent > 2046 {
             return None;
@@ -110,8 +112,9 @@ impl Whole {
         }
     }
 
+    // Named as the two of f64, so no From.
     pub(crate) fn from_bits(bits: u64) -> Option<Whole>
-        ensures { IfSome result (λ w. pattern w.negative w.significand w.exponent ≡ bits) }
+        ensures { IfSome result (λ w. bits_of w ≡ bits) }
     {
         let negative = bits >= 0x8000_0000_0000_0000;
         let exponent = (bits / LEAST % 2048) as i32;
@@ -123,7 +126,7 @@ impl Whole {
     }
 
     pub(crate) fn to_bits(self) -> u64
-        ensures { result ≡ pattern self.negative self.significand self.exponent }
+        ensures { result ≡ bits_of self }
     {
         let size = self.exponent as u64 * LEAST + self.significand % LEAST;
         if self.negative {
@@ -133,26 +136,23 @@ impl Whole {
         }
     }
 
-    pub(crate) fn negated(self) -> Whole
-        ensures { pattern result.negative result.significand result.exponent ≡ pattern (not self.negative) self.significand self.exponent }
+    fn with_sign(mut self, negative: bool) -> Whole
+        ensures { bits_of result ≡ pattern negative self.significand self.exponent }
     {
-        Whole {
-            negative: !self.negative,
-            significand: self.significand,
-            exponent: self.exponent,
-            rounding: self.rounding,
-        }
+        self.negative = negative;
+        self
+    }
+
+    pub(crate) fn negated(self) -> Whole
+        ensures { bits_of result ≡ pattern (not self.negative) self.significand self.exponent }
+    {
+        self.with_sign(!self.negative)
     }
 
     pub(crate) fn magnitude(self) -> Whole
-        ensures { pattern result.negative result.significand result.exponent ≡ pattern false self.significand self.exponent }
+        ensures { bits_of result ≡ pattern false self.significand self.exponent }
     {
-        Whole {
-            negative: false,
-            significand: self.significand,
-            exponent: self.exponent,
-            rounding: self.rounding,
-        }
+        self.with_sign(false)
     }
 
     pub(crate) fn plus(self, other: Whole) -> Option<Whole> {
@@ -186,21 +186,13 @@ impl Whole {
         Whole::rounded(negative, digits, self.exponent + other.exponent - 1075)
     }
 
-    fn is_zero(self) -> bool {
-        self.significand == 0
-    }
-
-    fn is_larger(self, other: Whole) -> bool {
-        self.exponent > other.exponent
-            || self.exponent == other.exponent && self.significand > other.significand
+    // The numbers' order: the bits of magnitudes are ordered as these, and both zeros have 0.
+    fn rank(self) -> i64 {
+        let size = self.magnitude().to_bits() as i64;
+        if self.negative { -size } else { size }
     }
 
     pub(crate) fn exceeds(self, other: Whole) -> bool {
-        match (self.negative, other.negative) {
-            (false, false) => self.is_larger(other),
-            (false, true) => !self.is_zero() || !other.is_zero(),
-            (true, false) => false,
-            (true, true) => other.is_larger(self),
-        }
+        self.rank() > other.rank()
     }
 }
