@@ -5,10 +5,7 @@ use judge::quick::Quick;
 use reading::logged::Logged;
 
 pub(crate) fn log(level: f64, head: f64) -> anyhow::Result<Logged> {
-    match Logged::new(level, head) {
-        Ok(reading) => Ok(reading),
-        Err(_) => Err(anyhow!("a logged reading was refused")),
-    }
+    Logged::new(level, head).map_err(|_| anyhow!("a logged reading was refused"))
 }
 
 fn show(rt: &HostRuntime, name: &str, reading: &Logged) -> anyhow::Result<()> {
@@ -30,7 +27,7 @@ pub(crate) fn ask_about_logs(
     let difference = Quick.difference(a, b, c);
     let weight = Quick.weight(a, b, c);
     let allowance = Quick.allowance(a, b, c);
-    let word = Quick.ask(a, b, c).name();
+    let word = Quick.ask(a, b, c);
     println!(rt; "  quick: D {difference:e} T {weight} E {allowance:e} {word}")?;
     Ok(())
 }
