@@ -2,7 +2,7 @@
 use crate::books::{DIPS, EMPTY, MIXED};
 use std::test::Fail;
 use yearbook::book::Book;
-use yearbook::fields::{dipped_reading, logged_reading};
+use yearbook::noted::Noted;
 use yearbook::record::Record;
 
 #[derive(Clone, Copy, PartialEq, Debug)]
@@ -13,20 +13,14 @@ enum Values<'a> {
 }
 
 fn values_of<'a>(record: Record<'a>) -> Result<Values<'a>, Fail> {
-    match record {
-        Record::Logged(part) => {
-            let logged = logged_reading(part)?;
-            Ok(Values::Logged(logged.level(), logged.head()))
-        }
-        Record::Dipped(part) => {
-            let dipped = dipped_reading(part)?;
-            Ok(Values::Dipped(
-                (dipped.level(), dipped.level_tolerance()),
-                (dipped.head(), dipped.head_tolerance()),
-            ))
-        }
-        Record::Note(text) => Ok(Values::Note(text)),
-    }
+    Ok(match Noted::try_from(record)? {
+        Noted::Logged(logged) => Values::Logged(logged.level(), logged.head()),
+        Noted::Dipped(dipped) => Values::Dipped(
+            (dipped.level(), dipped.level_tolerance()),
+            (dipped.head(), dipped.head_tolerance()),
+        ),
+        Noted::Note(text) => Values::Note(text),
+    })
 }
 
 struct Sample {

@@ -1,16 +1,15 @@
 // The limits of the numbers that a reading may hold.
+use reading::cause::Cause;
 use reading::dipped::Dipped;
 use reading::logged::Logged;
-use reading::made::ReadingRefusal;
+use reading::refusal::ReadingRefusal;
 use std::num::{f64_from_bits_with_nan, f64_to_bits_with_nan};
 use std::test::Fail;
 
 // The number of the cause, and the field.
 fn refused<R: Drop>(made: Result<R, ReadingRefusal>) -> Option<(u8, usize)> {
-    match made {
-        Ok(_) => None,
-        Err(refusal) => Some((refusal.cause.number(), refusal.field)),
-    }
+    let refusal = made.err()?;
+    Some((u8::from(Cause::from(refusal)), refusal.field()))
 }
 
 // The bits of a number, and whether a logged reading may hold it.

@@ -61,7 +61,7 @@ pub(crate) fn refusal_of(bytes: &[u8]) -> Result<(u8, usize, &'static str), Fail
         Ok(_) => Err(Fail::new("the book is taken")),
         Err(refusal) => {
             let layer = refusal.cause.layer().ok_or("no layer")?;
-            Ok((refusal.cause.number(), refusal.byte, layer.name()))
+            Ok((u8::from(refusal.cause), refusal.byte, layer.name()))
         }
     }
 }

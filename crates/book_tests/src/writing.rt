@@ -1,35 +1,33 @@
 // Books that are written: their bytes, the memory that they need, and the longest one.
 use crate::books::{DIPS, MIXED};
 use bookwriter::rewrite::rewrite;
-use bookwriter::writer::Writer;
+use bookwriter::writer::{Unfinished, Writer};
 use reading::cause::Cause;
 use reading::dipped::Dipped;
 use std::process::Abort;
 use std::test::Fail;
 use yearbook::book::MOST_BYTES;
+use yearbook::noted::Noted;
 
 // A visit number, a level and a head.
 const THREE_DIPS: [(u16, i32, i32); 3] = [(5, 0, 0), (6, 10, 0), (7, 0, 10)];
 
 // The cause of a refused end, and the writer, which can still be used.
-fn refused(ended: Result<usize, (Writer, Cause)>) -> Result<(Writer, Cause), Fail> {
+fn refused(ended: Result<usize, Unfinished>) -> Result<(Writer, Cause), Fail> {
     match ended {
         Ok(_) => Err(Fail::new("the book is ended")),
-        Err(back) => Ok(back),
+        Err(Unfinished { writer, cause }) => Ok((writer, cause)),
     }
 }
 
-fn ended(end: Result<usize, (Writer, Cause)>) -> Result<usize, Fail> {
-    match end {
-        Ok(added) => Ok(added),
-        Err(_) => Err(Fail::new("the end is refused")),
-    }
+fn ended(end: Result<usize, Unfinished>) -> Result<usize, Fail> {
+    end.map_err(|_| Fail::new("the end is refused"))
 }
 
 fn put_dips(rt: &impl Abort, writer: &mut Writer, out: &mut [u8]) -> Result<(), Fail> {
     for (visit, level, head) in &THREE_DIPS {
         let reading = Dipped::new(*level, 0, *head, 0)?;
-        assert_eq!(rt; writer.put_dipped(out, *visit, &reading), Ok(15));
+        assert_eq!(rt; writer.put(out, *visit, Noted::Dipped(reading)), Ok(15));
     }
     Ok(())
 }
@@ -42,7 +40,7 @@ fn small_book(rt: HostRuntime) -> Result<(), Fail> {
     assert_eq!(rt; added, 0);
     let reading = Dipped::new(0, 0, 0, 0)?;
     assert_eq!(rt;
-        writer.put_dipped(&mut [7; 14], 5, &reading),
+        writer.put(&mut [7; 14], 5, Noted::Dipped(reading)),
         Err(Cause::OutputMemory)
     );
     put_dips(&rt, &mut writer, &mut out)?;
@@ -72,11 +70,11 @@ fn long_note(rt: HostRuntime) -> Result<(), Fail> {
     let mut out = [7; 300];
     let (mut writer, _) = Writer::begin(&mut out, b"")?;
     assert_eq!(rt;
-        writer.put_note(&mut out, 1, &[b'n'; 201]),
+        writer.put(&mut out, 1, Noted::Note(&[b'n'; 201])),
         Err(Cause::NoteLength)
     );
     assert_eq!(rt; out[0], 7);
-    assert_eq!(rt; writer.put_note(&mut out, 1, &[b'n'; 200]), Ok(204));
+    assert_eq!(rt; writer.put(&mut out, 1, Noted::Note(&[b'n'; 200])), Ok(204));
     Ok(())
 }
 
@@ -93,9 +91,15 @@ fn fullest_book(rt: HostRuntime) -> Result<(), Fail> {
     );
     let (mut writer, added) = Writer::begin(&mut out, &cover[0..LONG_COVER])?;
     assert_eq!(rt; added, LONG_COVER);
-    assert_eq!(rt; writer.put_note(&mut out, 1, b"n"), Err(Cause::BookFull));
-    assert_eq!(rt; writer.put_note(&mut out, 1, b""), Ok(4));
-    assert_eq!(rt; writer.put_note(&mut out, 2, b""), Err(Cause::BookFull));
+    assert_eq!(rt;
+        writer.put(&mut out, 1, Noted::Note(b"n")),
+        Err(Cause::BookFull)
+    );
+    assert_eq!(rt; writer.put(&mut out, 1, Noted::Note(b"")), Ok(4));
+    assert_eq!(rt;
+        writer.put(&mut out, 2, Noted::Note(b"")),
+        Err(Cause::BookFull)
+    );
     assert_eq!(rt; ended(writer.finish(&mut out, 1900))?, 12);
     assert_eq!(rt; out.iter().skip(MOST_BYTES).count(), 8);
     assert_eq!(rt; out.last().copied(), Some(7));
