@@ -2,6 +2,7 @@
 ghost use Rattle.std.specs.Prelude.{T};
 ghost use Rattle.reading.specs.Limits.{reachable, tolerable};
 
+// No model, as for a logged reading. Four numbers and not two pairs, as a book and a page have them.
 #[derive(Clone, Copy, Drop)]
 pub struct Dipped {
     pub(crate) level: i32,

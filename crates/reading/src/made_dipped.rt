@@ -1,11 +1,18 @@
 // How dipped readings are made, within their limits, and read again.
 ghost use Rattle.std.specs.Prelude.{◌≡◌, Some};
+ghost use Rattle.reading.specs.Limits.{reachable};
 ghost use Rattle.reading.specs.Makes.{dipped_made, dipped_seen, dipped_numbers};
 ghost use Rattle.reading.specs.Printed.{dip_text};
 
 use crate::dipped::Dipped;
 use crate::refusal::ReadingRefusal;
 use std::fmt;
+
+fn in_reach(millimetres: i32) -> bool
+    ensures { result ≡ reachable millimetres }
+{
+    (-1_000_000..=1_000_000).contains(&millimetres)
+}
 
 impl Dipped {
     pub fn new(
@@ -16,13 +23,13 @@ impl Dipped {
     ) -> Result<Dipped, ReadingRefusal>
         ensures { dipped_seen result ≡ dipped_made level level_tolerance head head_tolerance }
     {
-        if level < -1_000_000 || level > 1_000_000 {
+        if !in_reach(level) {
             return Err(ReadingRefusal::DippedLevel);
         }
         if level_tolerance > 1000 {
             return Err(ReadingRefusal::LevelTolerance);
         }
-        if head < -1_000_000 || head > 1_000_000 {
+        if !in_reach(head) {
             return Err(ReadingRefusal::DippedHead);
         }
         if head_tolerance > 1000 {

@@ -15,6 +15,7 @@ fn in_range(x: f64) -> bool
         x.is_sign_positive()
     } else {
         let size = x.abs();
+        // and no range: the definition has these two comparisons
         9.5367431640625e-7 <= size && size <= 1048576.0
     }
 }
