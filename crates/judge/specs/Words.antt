@@ -32,5 +32,5 @@ word_name Right = codes "RIGHT"
 word_name Undecided = codes "UNDECIDED"
 
 -- f of the numbers that three readings hold
-abbrev pub on : {R N A : Type 0} → (R → N) → (N → N → N → A) → R → R → R → A
-on numbers f a b c = f (numbers a) (numbers b) (numbers c)
+abbrev pub by_numbers : {R N A : Type 0} → (R → N) → (N → N → N → A) → R → R → R → A
+by_numbers numbers f a b c = f (numbers a) (numbers b) (numbers c)

@@ -2,7 +2,7 @@
 ghost use Rattle.std.specs.Prelude.{◌≡◌, ◌^◌, ◌≤◌, pos, unsigned_abs};
 ghost use Rattle.reading.specs.Makes.{dipped_numbers};
 ghost use Rattle.judge.specs.Dips.{level, head};
-ghost use Rattle.judge.specs.Words.{on};
+ghost use Rattle.judge.specs.Words.{by_numbers};
 ghost use Rattle.judge.specs.Centre.{apart, centre_area, centre_doubt, centre_word};
 ghost use Rattle.judge.specs.Centres.{centre_certain};
 
@@ -44,7 +44,7 @@ pub struct Centre;
 impl Centre {
     // C, the doubled area of the centres.
     pub fn area(&self, a: &Dipped, b: &Dipped, c: &Dipped) -> i64
-        ensures value { result ≡ on dipped_numbers centre_area a.now b.now c.now }
+        ensures value { result ≡ by_numbers dipped_numbers centre_area a.now b.now c.now }
         ensures small { unsigned_abs result ≤ 2 ^ 45 }
     {
         let Differences { p, q, r, s } = Differences::of(a, b, c);
@@ -53,17 +53,17 @@ impl Centre {
 
     // R, how far the true doubled area may lie from C.
     pub fn doubt(&self, a: &Dipped, b: &Dipped, c: &Dipped) -> i64
-        ensures { result ≡ pos (on dipped_numbers centre_doubt a.now b.now c.now) }
+        ensures { result ≡ pos (by_numbers dipped_numbers centre_doubt a.now b.now c.now) }
     {
         let Differences { p, q, r, s } = Differences::of(a, b, c);
-        (p.doubt(q) + r.doubt(s)) as i64
+        p.doubt(q) + r.doubt(s)
     }
 }
 
 impl Judge for Centre {
     type Reading = Dipped;
 
-    ghost word = { λ _. on dipped_numbers centre_word };
+    ghost word = { λ _. by_numbers dipped_numbers centre_word };
 
     ghost certain = { λ j. centre_certain };
 

@@ -1,5 +1,5 @@
 // The coordinates of dips and the differences of two, each a centre with a tolerance.
-ghost use Rattle.std.specs.Prelude.{◌≡◌, ◌^◌, ◌≤◌, ◌-ℤ◌, ◌*ℤ◌, unsigned_abs};
+ghost use Rattle.std.specs.Prelude.{◌≡◌, ◌^◌, ◌≤◌, ◌*◌, pos, ◌-ℤ◌, ◌*ℤ◌, unsigned_abs};
 ghost use Rattle.reading.specs.Makes.{dipped_numbers};
 ghost use Rattle.judge.specs.Dips.{level as level_of, head as head_of, low, high};
 ghost use Rattle.judge.specs.Centre.{apart, product_doubt};
@@ -30,6 +30,7 @@ impl Model for Coordinate {
     ghost inverse = { λ x. record { centre = x.0; tolerance = x.1 } };
 }
 
+// Level and head differ in the two fields that they read; one function that took them would be no shorter.
 impl Coordinate {
     pub(crate) fn level(a: &Dipped) -> Coordinate
         ensures { result ≡ level_of (dipped_numbers a.now) }
@@ -115,13 +116,22 @@ impl Difference {
         i64::from(self.centre) * i64::from(other.centre)
     }
 
-    // How far the product of two differences may lie from that of their centres.
-    pub(crate) fn doubt(self, other: Difference) -> u64
-        ensures value { result ≡ product_doubt self other }
-        ensures small { result ≤ 2 ^ 46 }
+    // The magnitude of the centre, times a tolerance.
+    fn magnified(self, tolerance: u16) -> i64
+        ensures value { result ≡ pos (unsigned_abs self.0 * tolerance) }
+        ensures small { unsigned_abs result ≤ 2 ^ 38 }
     {
-        u64::from(other.centre.unsigned_abs()) * u64::from(self.tolerance)
-            + u64::from(self.centre.unsigned_abs()) * u64::from(other.tolerance)
-            + u64::from(self.tolerance) * u64::from(other.tolerance)
+        i64::from(self.centre).abs() * i64::from(tolerance)
+    }
+
+    // How far the product of two differences may lie from that of their centres.
+    pub(crate) fn doubt(self, other: Difference) -> i64
+        ensures value { result ≡ pos (product_doubt self other) }
+        ensures small { product_doubt self other ≤ 2 ^ 46 }
+    {
+        let by = self.tolerance;
+        let other_by = other.tolerance;
+        let both = i64::from(u32::from(by) * u32::from(other_by));
+        other.magnified(by) + self.magnified(other_by) + both
     }
 }

@@ -1,7 +1,7 @@
 // The corner judge of dipped readings: the least and the greatest doubled area of all settings of the coordinates to their ends.
 ghost use Rattle.std.specs.Prelude.{◌≡◌};
 ghost use Rattle.reading.specs.Makes.{dipped_numbers};
-ghost use Rattle.judge.specs.Words.{Certain, Decided, on};
+ghost use Rattle.judge.specs.Words.{Certain, Decided, by_numbers};
 ghost use Rattle.judge.specs.Corner.{at_heads, over_third, over_second, least, greatest, corner_word};
 ghost use Rattle.judge.specs.Spans.{IsSpan, AtEnds};
 ghost use Rattle.judge.specs.Corners.{corner_certain};
@@ -13,7 +13,8 @@ use crate::word::Word;
 use reading::dipped::Dipped;
 use reading::kind::Kind;
 
-// The functions on three readings take a, b and c one by one, as an orientation test is written.
+// Here too a, b and c are given one by one, as an orientation test is written, and then the heads that are set.
+// A struct of them would be taken apart at every step.
 
 // The least and the greatest of f at both ends of a coordinate.
 fn over_ends<F: Fn(i32) -> Span>(x: Coordinate, f: F) -> Span
@@ -26,7 +27,7 @@ fn over_ends<F: Fn(i32) -> Span>(x: Coordinate, f: F) -> Span
 // The least and the greatest doubled area of given heads and all 8 settings of the levels. The area is
 // xa·(yb - yc) + xb·(yc - ya) + xc·(ya - yb), of which each term has its least and its greatest at the ends of its level.
 fn at_heads(a: &Dipped, b: &Dipped, c: &Dipped, ya: i32, yb: i32, yc: i32) -> Span
-    ensures { IsSpan (λ pick. on dipped_numbers (at_heads pick) a.now b.now c.now ya yb yc) result }
+    ensures { IsSpan (λ pick. by_numbers dipped_numbers (at_heads pick) a.now b.now c.now ya yb yc) result }
 {
     let first = Coordinate::level(a).spread(yb, yc);
     let second = Coordinate::level(b).spread(yc, ya);
@@ -39,14 +40,14 @@ fn at_heads(a: &Dipped, b: &Dipped, c: &Dipped, ya: i32, yb: i32, yc: i32) -> Sp
 
 // Over both ends of the third head too.
 fn over_third(a: &Dipped, b: &Dipped, c: &Dipped, ya: i32, yb: i32) -> Span
-    ensures { IsSpan (λ pick. on dipped_numbers (over_third pick) a.now b.now c.now ya yb) result }
+    ensures { IsSpan (λ pick. by_numbers dipped_numbers (over_third pick) a.now b.now c.now ya yb) result }
 {
     over_ends(Coordinate::head(c), |yc| at_heads(a, b, c, ya, yb, yc))
 }
 
 // Over both ends of the second head too.
 fn over_second(a: &Dipped, b: &Dipped, c: &Dipped, ya: i32) -> Span
-    ensures { IsSpan (λ pick. on dipped_numbers (over_second pick) a.now b.now c.now ya) result }
+    ensures { IsSpan (λ pick. by_numbers dipped_numbers (over_second pick) a.now b.now c.now ya) result }
 {
     over_ends(Coordinate::head(b), |yb| over_third(a, b, c, ya, yb))
 }
@@ -55,9 +56,9 @@ fn over_second(a: &Dipped, b: &Dipped, c: &Dipped, ya: i32) -> Span
 pub struct Corner;
 
 impl Corner {
-    // The least and the greatest doubled area of all 64 settings.
+    // The least and the greatest doubled area of all 64 settings, as the pair that callers take apart.
     pub fn sweep(&self, a: &Dipped, b: &Dipped, c: &Dipped) -> (i64, i64)
-        ensures { result ≡ (on dipped_numbers least a.now b.now c.now, on dipped_numbers greatest a.now b.now c.now) }
+        ensures { result ≡ (by_numbers dipped_numbers least a.now b.now c.now, by_numbers dipped_numbers greatest a.now b.now c.now) }
     {
         // Not by over_ends: the compiler leaves the outermost closure a call, and an ask takes a quarter longer.
         let ya = Coordinate::head(a);
@@ -69,12 +70,12 @@ impl Corner {
 impl Judge for Corner {
     type Reading = Dipped;
 
-    ghost word = { λ _. on dipped_numbers corner_word };
+    ghost word = { λ _. by_numbers dipped_numbers corner_word };
 
     ghost certain = { λ j. corner_certain };
 
     fn ask(&self, a: &Dipped, b: &Dipped, c: &Dipped) -> Word
-        ensures word { result ≡ on dipped_numbers corner_word a.now b.now c.now }
+        ensures word { result ≡ by_numbers dipped_numbers corner_word a.now b.now c.now }
         ensures certain { Certain ⟦<Dipped as Kind>⟧.stands a.now b.now c.now result }
         ensures decided { Decided ⟦<Dipped as Kind>⟧.stands a.now b.now c.now result }
     {

@@ -12,6 +12,7 @@ pub trait Judge {
     // the word on three readings, in their order
     ghost word: { Self → Self.Reading → Self.Reading → Self.Reading → Said };
 
+    // The readings are given one by one, as an orientation test is written.
     fn ask(&self, a: &Self::Reading, b: &Self::Reading, c: &Self::Reading) -> Word
         ensures word { result ≡ word self.now a.now b.now c.now }
         ensures certain { Certain Self.Reading.Kind.stands a.now b.now c.now result };

@@ -2,7 +2,7 @@
 ghost use Rattle.std.specs.Prelude.{◌≡◌};
 ghost use Rattle.reading.specs.Makes.{logged_numbers};
 ghost use Rattle.orientation.specs.Filter.{difference as difference_of, weight as weight_of, allowance as allowance_of};
-ghost use Rattle.judge.specs.Words.{on};
+ghost use Rattle.judge.specs.Words.{by_numbers};
 ghost use Rattle.judge.specs.Quick.{coefficient, quick_word};
 ghost use Rattle.judge.specs.Quicks.{quick_certain};
 
@@ -17,7 +17,7 @@ pub struct Quick;
 impl Quick {
     // D, the doubled area as far as binary64 tells it.
     pub fn difference(&self, a: &Logged, b: &Logged, c: &Logged) -> f64
-        ensures { result ≡ on logged_numbers difference_of a.now b.now c.now }
+        ensures { result ≡ by_numbers logged_numbers difference_of a.now b.now c.now }
     {
         let p = a.level() - c.level();
         let q = b.head() - c.head();
@@ -28,7 +28,7 @@ impl Quick {
 
     // T, what the rounding errors of D are measured by.
     pub fn weight(&self, a: &Logged, b: &Logged, c: &Logged) -> f64
-        ensures { result ≡ on logged_numbers weight_of a.now b.now c.now }
+        ensures { result ≡ by_numbers logged_numbers weight_of a.now b.now c.now }
     {
         let p = a.level().abs() + c.level().abs();
         let q = b.head().abs() + c.head().abs();
@@ -39,7 +39,7 @@ impl Quick {
 
     // E, what D must exceed to be trusted.
     pub fn allowance(&self, a: &Logged, b: &Logged, c: &Logged) -> f64
-        ensures { result ≡ on logged_numbers (allowance_of coefficient) a.now b.now c.now }
+        ensures { result ≡ by_numbers logged_numbers (allowance_of coefficient) a.now b.now c.now }
     {
         // 6 · 2^-53
         6.661338147750939e-16 * self.weight(a, b, c)
@@ -49,7 +49,7 @@ impl Quick {
 impl Judge for Quick {
     type Reading = Logged;
 
-    ghost word = { λ _. on logged_numbers quick_word };
+    ghost word = { λ _. by_numbers logged_numbers quick_word };
 
     ghost certain = { λ j. quick_certain };
 

@@ -20,9 +20,8 @@ impl<F: Judge, S: Judge<Reading = F::Reading>> Judge for Staged<F, S> {
 
     fn ask(&self, a: &F::Reading, b: &F::Reading, c: &F::Reading) -> Word {
         match self.first.ask(a, b, c) {
-            Word::Left => Word::Left,
-            Word::Right => Word::Right,
             Word::Undecided => self.second.ask(a, b, c),
+            word => word,
         }
     }
 }

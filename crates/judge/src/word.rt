@@ -24,16 +24,23 @@ impl Word {
             Word::Undecided
         }
     }
+
+    // As it is printed. Display prints it; this is for comparing it, without a place to print to.
+    pub fn name(self) -> &'static str
+        ensures { result.now ≡ word_name self }
+    {
+        match self {
+            Word::Left => "LEFT",
+            Word::Right => "RIGHT",
+            Word::Undecided => "UNDECIDED",
+        }
+    }
 }
 
 impl fmt::Display for Word {
     ghost output = { λ w. Some (word_name w) };
 
     fn fmt<W: fmt::Write>(&self, f: &mut fmt::Formatter<W>) -> fmt::Result {
-        f.write_str(match self {
-            Word::Left => "LEFT",
-            Word::Right => "RIGHT",
-            Word::Undecided => "UNDECIDED",
-        })
+        f.write_str(self.name())
     }
 }

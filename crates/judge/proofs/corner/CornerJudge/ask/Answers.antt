@@ -1,7 +1,7 @@
 use Rattle.std.proofs.Common.{◌≡◌, sym, subst, rules}
 use Rattle.reading.specs.contracts.kind.DippedKind.TheImpl as DippedKind
 use Rattle.reading.specs.Makes.{dipped_numbers}
-use Rattle.judge.specs.Words.{Certain, Decided, on}
+use Rattle.judge.specs.Words.{Certain, Decided, by_numbers}
 use Rattle.judge.specs.Corner.{corner_word}
 use Rattle.judge.specs.Corners.{corner_certain, corner_decided}
 use Rattle.judge.proofs.corner.CornerJudge.ask.Goals as goal
@@ -11,7 +11,7 @@ returns c =
     let a = c.args.a.now in
     let b = c.args.b.now in
     let d = c.args.c.now in
-    let word : c.of.result ≡ on dipped_numbers corner_word a b d = search rules in
+    let word : c.of.result ≡ by_numbers dipped_numbers corner_word a b d = search rules in
     record {
       word = word;
       certain = subst (Certain (DippedKind.ghosts).stands a b d) (sym word) (corner_certain a b d);
