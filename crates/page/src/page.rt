@@ -8,12 +8,14 @@ use itoa::Buffer;
 use reading::cause::Cause;
 use rules::standing::Standing;
 
-// Memory that bytes are put into one after another. What is past its end is counted and not written, so that with no memory a text is only measured.
+// Memory that bytes are put into one after another. What is past its end is counted and not written, so that with no
+// memory a text is only measured.
 // `Display` and `write!` will not do: no contract rules out their `Err`, and a page that fits must not be refused.
 #[derive(Drop)]
 struct Sheet<'a> {
     out: &'a mut [u8],
-    // How many bytes were put, or `usize::MAX` where there were more. No memory has so many, so an Option would only add a case.
+    // How many bytes were put, or `usize::MAX` where there were more. No memory has so many, so an Option would only add
+    // a case.
     end: usize,
 }
 
@@ -66,6 +68,7 @@ fn letter(standing: Standing) -> u8
     }
 }
 
+// What makes a page is given one by one, as to write_page, which alone calls this.
 // Puts a page where it fits, and answers its length, or `usize::MAX` where that is beyond it.
 fn put_page(out: &mut [u8], title: &str, standings: &[Standing], ring: &[usize]) -> usize
     ensures end { let text = page_text title.now standings.now ring.now in
