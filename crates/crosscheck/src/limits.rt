@@ -89,8 +89,7 @@ impl Limits {
 
 impl fmt::Display for Limits {
     fn fmt<W: fmt::Write>(&self, f: &mut fmt::Formatter<W>) -> fmt::Result {
-        let taken = self.taken;
-        let refused = self.refused;
+        let Limits { taken, refused } = self;
         let inside = TAKEN.len();
         let outside = REFUSED.len();
         write!(

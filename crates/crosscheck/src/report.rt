@@ -43,11 +43,13 @@ impl Answers {
 
 impl fmt::Display for Answers {
     fn fmt<W: fmt::Write>(&self, f: &mut fmt::Formatter<W>) -> fmt::Result {
-        let d = self.difference;
-        let t = self.weight;
-        let e = self.allowance;
-        let word = self.word;
-        let edge = self.on_edge;
+        let Answers {
+            difference: d,
+            weight: t,
+            allowance: e,
+            word,
+            on_edge: edge,
+        } = self;
         write!(
             f,
             "the judge: D {d}, T {t}, E {e}, word {word} agree; {edge} with D = E or D = -E"
@@ -66,7 +68,7 @@ impl Report {
 
     // Compares a triple, and returns the judge's word on it, if its readings are taken.
     pub(crate) fn add(&mut self, triple: &Triple) -> Option<Word> {
-        count(&mut self.triples, true);
+        self.triples = self.triples.saturating_add(1);
         let steps = Steps::of(triple);
         for (tally, step) in self.steps.iter_mut().zip(steps.all.map(Twice::outcome)) {
             tally.add(step);

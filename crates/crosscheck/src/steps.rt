@@ -3,6 +3,7 @@ use crate::triples::{Axis, Triple};
 use crate::twice::Twice;
 use judge::word::Word;
 
+// The names of the rows of tallies, in the order of the steps. Beside each step they would be copied with every triple.
 pub(crate) const NAMES: [&'static str; 15] = [
     "p = xa - xc",
     "q = yb - yc",

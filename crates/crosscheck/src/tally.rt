@@ -51,11 +51,13 @@ impl Tally {
 
 impl fmt::Display for Tally {
     fn fmt<W: fmt::Write>(&self, f: &mut fmt::Formatter<W>) -> fmt::Result {
-        let name = self.name;
-        let agreed = self.agreed;
-        let inexact = self.inexact;
-        let down = self.ties_down;
-        let up = self.ties_up;
+        let Tally {
+            name,
+            agreed,
+            inexact,
+            ties_down: down,
+            ties_up: up,
+        } = self;
         write!(f, "{name:<16}{agreed:>10}{inexact:>10}{down:>11}{up:>10}")
     }
 }
@@ -70,9 +72,11 @@ impl Words {
 
 impl fmt::Display for Words {
     fn fmt<W: fmt::Write>(&self, f: &mut fmt::Formatter<W>) -> fmt::Result {
-        let left = self.left;
-        let right = self.right;
-        let undecided = self.undecided;
+        let Words {
+            left,
+            right,
+            undecided,
+        } = self;
         write!(f, "{left:>10}{right:>10}{undecided:>11}")
     }
 }

@@ -18,6 +18,7 @@ pub(crate) struct Outcome {
 }
 
 impl Twice {
+    // Named as that of f64, so no From.
     pub(crate) fn from_bits(bits: u64) -> Twice {
         Twice {
             machine: f64_from_bits_with_nan(bits),

@@ -83,7 +83,7 @@ impl Whole {
         requires { significand < 2 ^ 53 }
         ensures { IfSome result (λ w. bits_of w ≡ pattern negative significand exponent) }
     {
-        if exponent < 1 || exponent > 2046 {
+        if !(1..=2046).contains(&exponent) {
             return None;
         }
         Some(Whole {
@@ -192,6 +192,7 @@ impl Whole {
         if self.negative { -size } else { size }
     }
 
+    // Not PartialOrd: it would call numbers equal that were rounded otherwise.
     pub(crate) fn exceeds(self, other: Whole) -> bool {
         self.rank() > other.rank()
     }
