@@ -8,6 +8,7 @@ pub(crate) fn log(level: f64, head: f64) -> anyhow::Result<Logged> {
     Logged::new(level, head).map_err(|_| anyhow!("a logged reading was refused"))
 }
 
+// No Display: how a binary64 number is printed has no contract, so one of Logged would promise nothing.
 fn show(rt: &HostRuntime, name: &str, reading: &Logged) -> anyhow::Result<()> {
     let level = reading.level();
     let head = reading.head();
