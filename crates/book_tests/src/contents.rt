@@ -5,6 +5,7 @@ use yearbook::book::Book;
 use yearbook::noted::Noted;
 use yearbook::record::Record;
 
+// As Noted, but of plain numbers: a constant can't hold a reading, which is made by a call.
 #[derive(Clone, Copy, PartialEq, Debug)]
 enum Values<'a> {
     Logged(f64, f64),

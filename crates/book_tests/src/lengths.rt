@@ -6,10 +6,7 @@ use std::test::Fail;
 use yearbook::book::{Book, MOST_BYTES};
 
 fn longest(heap: Global) -> Result<Vec<u8>, AllocError> {
-    let mut bytes = Vec::new(heap);
-    for _ in 0..DIP_COUNT {
-        bytes.extend_from_slice(DIP)?;
-    }
+    let mut bytes = DIP.repeat(heap, DIP_COUNT)?;
     bytes.extend_from_slice(TRAILER)?;
     Ok(bytes)
 }

@@ -57,13 +57,9 @@ fn changed(heap: Global, book: &[u8], changes: &[(usize, u8)]) -> Result<Vec<u8>
 }
 
 pub(crate) fn refusal_of(bytes: &[u8]) -> Result<(u8, usize, &'static str), Fail> {
-    match Book::read(bytes) {
-        Ok(_) => Err(Fail::new("the book is taken")),
-        Err(refusal) => {
-            let layer = refusal.cause.layer().ok_or("no layer")?;
-            Ok((u8::from(refusal.cause), refusal.byte, layer.name()))
-        }
-    }
+    let refusal = Book::read(bytes).err().ok_or("the book is taken")?;
+    let layer = refusal.cause.layer().ok_or("no layer")?;
+    Ok((u8::from(refusal.cause), refusal.byte, layer.name()))
 }
 
 fn check_cases(rt: &impl Abort, heap: Global, cases: &[Case]) -> Result<(), Fail> {
@@ -74,6 +70,7 @@ fn check_cases(rt: &impl Abort, heap: Global, cases: &[Case]) -> Result<(), Fail
     Ok(())
 }
 
+// A test for each list, so that a failure names it.
 #[test]
 fn each_cause(rt: HostRuntime) -> Result<(), Fail> {
     check_cases(&rt, rt.alloc(), &CASES)

@@ -12,16 +12,9 @@ use yearbook::noted::Noted;
 // A visit number, a level and a head.
 const THREE_DIPS: [(u16, i32, i32); 3] = [(5, 0, 0), (6, 10, 0), (7, 0, 10)];
 
-// The cause of a refused end, and the writer, which can still be used.
-fn refused(ended: Result<usize, Unfinished>) -> Result<(Writer, Cause), Fail> {
-    match ended {
-        Ok(_) => Err(Fail::new("the book is ended")),
-        Err(Unfinished { writer, cause }) => Ok((writer, cause)),
-    }
-}
-
-fn ended(end: Result<usize, Unfinished>) -> Result<usize, Fail> {
-    end.map_err(|_| Fail::new("the end is refused"))
+// Of a refused end: why, and the writer, which can still be used.
+fn refused(ended: Result<usize, Unfinished>) -> Result<Unfinished, Fail> {
+    Ok(ended.err().ok_or("the book is ended")?)
 }
 
 fn put_dips(rt: &impl Abort, writer: &mut Writer, out: &mut [u8]) -> Result<(), Fail> {
@@ -45,12 +38,12 @@ fn small_book(rt: HostRuntime) -> Result<(), Fail> {
     );
     put_dips(&rt, &mut writer, &mut out)?;
     let mut short = [7; 56];
-    let (writer, cause) = refused(writer.finish(&mut short, 2023))?;
+    let Unfinished { writer, cause } = refused(writer.finish(&mut short, 2023))?;
     assert_eq!(rt; cause, Cause::OutputMemory);
     assert_eq!(rt; short, [7; 56]);
-    let (writer, cause) = refused(writer.finish(&mut out, 2200))?;
+    let Unfinished { writer, cause } = refused(writer.finish(&mut out, 2200))?;
     assert_eq!(rt; cause, Cause::Year);
-    assert_eq!(rt; ended(writer.finish(&mut out, 2023))?, 12);
+    assert_eq!(rt; writer.finish(&mut out, 2023).map_err(Cause::from)?, 12);
     assert_eq!(rt; out.as_slice(), DIPS);
     Ok(())
 }
@@ -100,7 +93,7 @@ fn fullest_book(rt: HostRuntime) -> Result<(), Fail> {
         writer.put(&mut out, 2, Noted::Note(b"")),
         Err(Cause::BookFull)
     );
-    assert_eq!(rt; ended(writer.finish(&mut out, 1900))?, 12);
+    assert_eq!(rt; writer.finish(&mut out, 1900).map_err(Cause::from)?, 12);
     assert_eq!(rt; out.iter().skip(MOST_BYTES).count(), 8);
     assert_eq!(rt; out.last().copied(), Some(7));
     Ok(())
