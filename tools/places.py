@@ -9,11 +9,11 @@ import sys
 
 SEARCHES = [
     ("1 numbers for kinds, fields or refusals", r"\bfield: (usize|[0-9])|refusal\.field\b|\bkind: u8|usize::MAX. where"),
-    ("1 results and options wrapped again by hand", r"(Ok|Err|Some)\(\w+\) => (Ok|Err|Some|None)\b|None => (Err|Ok|None)\b"),
+    ("1 results and options wrapped again by hand", r"(Ok|Err|Some)\(\w+\) => (Ok|Err|Some|None)\b|None => (Err|Ok|None)\b|(\b\w+::\w+) => \4\b"),
     ("3 loops with a count or an index kept by hand", r"\bwhile (?!let)|for \w+ in 0\.\.|^\s+\w+ \+= 1\b|saturating_add\(1\)|\w\[i\]"),
     ("4 order, printing and conversion by hand", r"fn (name|words|number|show|of|\w+_words|\w+_text|\w+_line|exact|quoted|is_larger|exceeds|from_\w+|to_\w+)\b(?!.*Formatter)"),
     ("4 values copied field by field", r"^\s+(\w+): (self|\w+)\.\1,$"),
-    ("5 facts that stand in many clauses", r"(requires|ensures)( \w+)? \{.*(\b(Placed|ShortTwo|ShortThree|Short|Half|Checked|progress_of|pattern)\b|(dipped|logged)_numbers b\.now)"),
+    ("5 facts that stand in many clauses", r"(requires|ensures)( \w+)? \{.*(\b(Placed|ShortTwo|ShortThree|Short|Half|Checked|progress_of|pattern)\b|(dipped|logged)_numbers b\.now|by_numbers)"),
     ("6 buffers with a length beside, parallel arrays", r"\[[\w&' ]+; 15\]|\(\[u8; [0-9]+\], usize\)|out: &mut \[u8\], at: usize"),
     ("7 steps chosen by a match, and functions in tables", r"= match self \{|match (record|visit\.record|kind) \{|: fn\(|\bdyn\b"),
 ]
