@@ -19,6 +19,7 @@ impl<R: Kind> Table<R> {
     fn pass<J: Judge<Reading = R>>(&mut self, judge: &J)
         ensures { self.new ≡ record self.old { envelope = passed (J.word judge.now) self.old.envelope.readings 0 self.old.envelope } }
     {
+        // by number, since each try may change the table
         for k in 0..self.readings.len() {
             self.try_held(judge, k);
         }

@@ -12,7 +12,8 @@ use reading::kind::Kind;
 use rules::location::Location;
 
 impl<R: Kind> Table<R> {
-    // The word on the side that begins at position i, with x third.
+    // The word on the side that begins at position i, with x third. Sides go by position: the last one ends at the first
+    // corner, which no iterator over the ring gives without counting.
     fn word_on<J: Judge<Reading = R>>(&self, judge: &J, i: usize, x: &R) -> Word
         requires { i < length self.now.envelope.ring }
         ensures { result ≡ slice_index_or (asked (J.word judge.now) self.now.envelope x.now) i Undecided }
