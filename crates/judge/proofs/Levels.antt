@@ -1,31 +1,42 @@
--- The levels' part of the sweep: of a term that is linear in a level, the least and the greatest are at its ends, and they add up.
+-- The levels' part of the sweep: of a term that is linear in a level, the least and the greatest are at its ends, and they add up. The sum in closed form.
 use Rattle.std.proofs.Common.{◌≡◌, ◌^◌, ◌≤◌, [], ◌∷◌, ℤ, pos, negsuc, ◌+ℤ◌, ◌-ℤ◌, ◌*ℤ◌, nat_abs, sym, ◌∙◌, ap₂, arith, w64, to_z, of_z}
 use Rattle.std.specs.Int.{int_min, int_max}
 use Rattle.std.proofs.lemmas.Int.{ints, clamps}
 use Rattle.plane.specs.Whole.{area}
-use Rattle.plane.proofs.Ring.{var, ◌⊕◌, ◌⊖◌, ◌⊗◌, ring}
+use Rattle.plane.proofs.Ring.{var, num, ◌⊕◌, ◌⊖◌, ◌⊗◌, ring}
 use Rattle.judge.specs.Dips.{Coordinate, Dip, level, low, high, at}
-use Rattle.judge.specs.Corner.{ends, at_heads}
+use Rattle.judge.specs.Corner.{ends, at_heads, middle, reach}
 use Rattle.judge.specs.Boxes.{area_e}
 
 abbrev pub held : ℤ → ℤ
 held x = to_z w64 (of_z w64 x)
 
--- ---- one level x with the factor k
-module _ (x : Coordinate) where
-  low_is : (k : ℤ) → low x *ℤ k ≡ x.0 *ℤ k -ℤ pos x.1 *ℤ k
-  low_is k = ring (x.0 ∷ pos x.1 ∷ k ∷ []) ((var 0 ⊖ var 1) ⊗ var 2) (var 0 ⊗ var 2 ⊖ var 1 ⊗ var 2) tt
+-- ---- one level x with the factor k, and a rest r
+module _ (x : Coordinate) (r : ℤ) where
+  low_is : (k : ℤ) → k *ℤ low x +ℤ r ≡ x.0 *ℤ k -ℤ pos x.1 *ℤ k +ℤ r
+  low_is k = ring (x.0 ∷ pos x.1 ∷ k ∷ r ∷ []) (var 2 ⊗ (var 0 ⊖ var 1) ⊕ var 3) (var 0 ⊗ var 2 ⊖ var 1 ⊗ var 2 ⊕ var 3) tt
 
-  high_is : (k : ℤ) → high x *ℤ k ≡ x.0 *ℤ k +ℤ pos x.1 *ℤ k
-  high_is k = ring (x.0 ∷ pos x.1 ∷ k ∷ []) ((var 0 ⊕ var 1) ⊗ var 2) (var 0 ⊗ var 2 ⊕ var 1 ⊗ var 2) tt
+  high_is : (k : ℤ) → k *ℤ high x +ℤ r ≡ x.0 *ℤ k +ℤ pos x.1 *ℤ k +ℤ r
+  high_is k = ring (x.0 ∷ pos x.1 ∷ k ∷ r ∷ []) (var 2 ⊗ (var 0 ⊕ var 1) ⊕ var 3) (var 0 ⊗ var 2 ⊕ var 1 ⊗ var 2 ⊕ var 3) tt
 
-  pub least_end : (k : ℤ) → x.0 *ℤ k -ℤ pos x.1 *ℤ pos (nat_abs k) ≡ ends int_min x (λ t. t *ℤ k)
+  pub least_end : (k : ℤ) → ends int_min x (λ t. k *ℤ t +ℤ r) ≡ x.0 *ℤ k -ℤ pos x.1 *ℤ pos (nat_abs k) +ℤ r
   least_end (pos n) = let l = low_is (pos n) in let u = high_is (pos n) in omega (arith, ints, clamps)
   least_end (negsuc n) = let l = low_is (negsuc n) in let u = high_is (negsuc n) in omega (arith, ints, clamps)
 
-  pub greatest_end : (k : ℤ) → x.0 *ℤ k +ℤ pos x.1 *ℤ pos (nat_abs k) ≡ ends int_max x (λ t. t *ℤ k)
+  pub greatest_end : (k : ℤ) → ends int_max x (λ t. k *ℤ t +ℤ r) ≡ x.0 *ℤ k +ℤ pos x.1 *ℤ pos (nat_abs k) +ℤ r
   greatest_end (pos n) = let l = low_is (pos n) in let u = high_is (pos n) in omega (arith, ints, clamps)
   greatest_end (negsuc n) = let l = low_is (negsuc n) in let u = high_is (negsuc n) in omega (arith, ints, clamps)
+
+-- ---- with no rest, as the code multiplies
+module _ (x : Coordinate) (k : ℤ) where
+  turned : (t : ℤ) → t *ℤ k ≡ k *ℤ t +ℤ pos 0
+  turned t = ring (t ∷ k ∷ []) (var 0 ⊗ var 1) (var 1 ⊗ var 0 ⊕ num (pos 0)) tt
+
+  pub least_alone : x.0 *ℤ k -ℤ pos x.1 *ℤ pos (nat_abs k) ≡ ends int_min x (λ t. t *ℤ k)
+  least_alone = let e = ap₂ int_min (turned (low x)) (turned (high x)) ∙ least_end x (pos 0) k in omega (arith, ints)
+
+  pub greatest_alone : x.0 *ℤ k +ℤ pos x.1 *ℤ pos (nat_abs k) ≡ ends int_max x (λ t. t *ℤ k)
+  greatest_alone = let e = ap₂ int_max (turned (low x)) (turned (high x)) ∙ greatest_end x (pos 0) k in omega (arith, ints)
 
 -- ---- all three levels
 module _ (pick : ℤ → ℤ → ℤ) (moves : (x y r : ℤ) → pick (x +ℤ r) (y +ℤ r) ≡ pick x y +ℤ r) (a b c : Dip) (ya yb yc : ℤ) where
@@ -73,3 +84,19 @@ lesser_moves x y r = omega (arith, ints, clamps)
 
 pub greater_moves : (x y r : ℤ) → int_max (x +ℤ r) (y +ℤ r) ≡ int_max x y +ℤ r
 greater_moves x y r = omega (arith, ints, clamps)
+
+-- ---- in closed form
+module _ (a b c : Dip) (ya yb yc : ℤ) where
+  pub least_is : middle a b c ya yb yc -ℤ pos (reach a b c ya yb yc) ≡ at_heads int_min a b c ya yb yc
+  least_is =
+      let x = least_alone (level a) (yb -ℤ yc) in
+      let y = least_alone (level b) (yc -ℤ ya) in
+      let z = least_alone (level c) (ya -ℤ yb) in
+      omega (arith, ints, at_heads_is int_min lesser_moves a b c ya yb yc)
+
+  pub greatest_is : middle a b c ya yb yc +ℤ pos (reach a b c ya yb yc) ≡ at_heads int_max a b c ya yb yc
+  greatest_is =
+      let x = greatest_alone (level a) (yb -ℤ yc) in
+      let y = greatest_alone (level b) (yc -ℤ ya) in
+      let z = greatest_alone (level c) (ya -ℤ yb) in
+      omega (arith, ints, at_heads_is int_max greater_moves a b c ya yb yc)

@@ -1,8 +1,6 @@
 -- What holds at both ends of a coordinate holds of the span of both.
-use Rattle.std.proofs.Common.{◌≡◌, T, ℤ, ◌∙◌, ap₂, sym, subst, arith, w32, SFits}
+use Rattle.std.proofs.Common.{◌≡◌, ℤ, ◌∙◌, ap₂, subst}
 use Rattle.std.specs.Int.{int_min, int_max}
-use Rattle.std.proofs.lemmas.Int.{ints}
-use Rattle.reading.specs.Limits.{reachable, tolerable}
 use Rattle.judge.specs.declared.span.Span.{Span}
 use Rattle.judge.specs.Dips.{Coordinate, low, high}
 use Rattle.judge.specs.Corner.{ends}
@@ -10,12 +8,5 @@ use Rattle.judge.specs.Spans.{IsSpan}
 
 -- the code's coordinate z is x
 module _ (x z : Coordinate) (is : z ≡ x) where
-  module _ (hv : T (reachable x.0)) (ht : T (tolerable x.1)) where
-    pub low_fits : SFits w32 (low z)
-    low_fits = subst (λ z. SFits w32 (low z)) (sym is) (grind (arith, ints))
-
-    pub high_fits : SFits w32 (high z)
-    high_fits = subst (λ z. SFits w32 (high z)) (sym is) (grind (arith, ints))
-
   pub swept_ends : (f : (ℤ → ℤ → ℤ) → ℤ → ℤ) (p q r : Span) → IsSpan (λ pick. f pick (low z)) p → IsSpan (λ pick. f pick (high z)) q → r.least ≡ int_min p.least q.least → r.greatest ≡ int_max p.greatest q.greatest → IsSpan (λ pick. ends pick x (f pick)) r
   swept_ends f p q r l u e g = subst (λ z. IsSpan (λ pick. ends pick z (f pick)) r) is (e ∙ ap₂ int_min l.0 u.0, g ∙ ap₂ int_max l.1 u.1)

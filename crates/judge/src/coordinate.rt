@@ -1,4 +1,4 @@
-// The coordinates of dips and the differences of two, each a centre with a tolerance.
+// The coordinates of dips and the differences of two, each a centre with a tolerance, and a coordinate's ends.
 ghost use Rattle.std.specs.Prelude.{◌≡◌, ◌^◌, ◌≤◌, ◌*◌, pos, ◌-ℤ◌, ◌*ℤ◌, unsigned_abs};
 ghost use Rattle.reading.specs.Makes.{dipped_numbers};
 ghost use Rattle.judge.specs.Dips.{level as level_of, head as head_of, low, high};
@@ -50,16 +50,20 @@ impl Coordinate {
         }
     }
 
-    pub(crate) fn low(self) -> i32
+    pub(crate) fn low(self) -> End
         ensures { result ≡ low self }
     {
-        self.centre - i32::from(self.tolerance)
+        End {
+            millimetres: i64::from(self.centre) - i64::from(self.tolerance),
+        }
     }
 
-    pub(crate) fn high(self) -> i32
+    pub(crate) fn high(self) -> End
         ensures { result ≡ high self }
     {
-        self.centre + i32::from(self.tolerance)
+        End {
+            millimetres: i64::from(self.centre) + i64::from(self.tolerance),
+        }
     }
 
     // The difference of the centres, with both tolerances together.
@@ -73,18 +77,46 @@ impl Coordinate {
     }
 
     // The least and the greatest of t·(y - z) at both ends t.
-    pub(crate) fn spread(self, y: i32, z: i32) -> Span
+    pub(crate) fn spread(self, y: End, z: End) -> Span
         ensures value { IsSpan (λ pick. ends pick self (λ t. t *ℤ (y -ℤ z))) result }
-        ensures least_small { unsigned_abs result.least ≤ 2 ^ 60 }
-        ensures greatest_small { unsigned_abs result.greatest ≤ 2 ^ 60 }
+        ensures least_small { unsigned_abs result.least ≤ 2 ^ 44 }
+        ensures greatest_small { unsigned_abs result.greatest ≤ 2 ^ 44 }
     {
-        let factor = i64::from(y) - i64::from(z);
+        let factor = y.minus(z);
         let middle = i64::from(self.centre) * factor;
         let reach = i64::from(self.tolerance) * factor.abs();
         Span {
             least: middle - reach,
             greatest: middle + reach,
         }
+    }
+}
+
+// One of the two ends of a coordinate.
+#[derive(Clone, Copy)]
+pub(crate) struct End {
+    pub(crate) millimetres: i64,
+}
+
+impl Model for End {
+    ghost use Rattle.std.specs.Prelude.{ℤ, ◌^◌, ◌≤◌, unsigned_abs};
+
+    ghost Value = { ℤ };
+
+    ghost view = { λ x. x.millimetres };
+
+    ghost invariant = { λ x. unsigned_abs x.millimetres ≤ 2 ^ 21 };
+
+    ghost inverse = { λ x. record { millimetres = x } };
+}
+
+impl End {
+    // The length between two ends.
+    pub(crate) fn minus(self, other: End) -> i64
+        ensures value { result ≡ self -ℤ other }
+        ensures short { unsigned_abs result ≤ 2 ^ 22 }
+    {
+        self.millimetres - other.millimetres
     }
 }
 

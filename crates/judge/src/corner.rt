@@ -1,12 +1,12 @@
 // The corner judge of dipped readings: the least and the greatest doubled area of all settings of the coordinates to their ends.
-ghost use Rattle.std.specs.Prelude.{◌≡◌};
+ghost use Rattle.std.specs.Prelude.{◌≡◌, ◌^◌, ◌≤◌, pos, ◌+ℤ◌, ◌-ℤ◌, unsigned_abs};
 ghost use Rattle.reading.specs.Makes.{dipped_numbers};
 ghost use Rattle.judge.specs.Words.{Certain, Decided, by_numbers};
-ghost use Rattle.judge.specs.Corner.{at_heads, over_third, over_second, least, greatest, corner_word};
+ghost use Rattle.judge.specs.Corner.{at_heads, middle, reach, over_third, over_second, least, greatest, corner_word};
 ghost use Rattle.judge.specs.Spans.{IsSpan, AtEnds};
 ghost use Rattle.judge.specs.Corners.{corner_certain};
 
-use crate::coordinate::Coordinate;
+use crate::coordinate::{Coordinate, End};
 use crate::judge::Judge;
 use crate::span::Span;
 use crate::word::Word;
@@ -17,7 +17,7 @@ use reading::kind::Kind;
 // A struct of them would be taken apart at every step.
 
 // The least and the greatest of f at both ends of a coordinate.
-fn over_ends<F: Fn(i32) -> Span>(x: Coordinate, f: F) -> Span
+fn over_ends<F: Fn(End) -> Span>(x: Coordinate, f: F) -> Span
     requires { F.IsAlwaysCallable f }
     ensures { AtEnds (F.post f) x result }
 {
@@ -26,8 +26,12 @@ fn over_ends<F: Fn(i32) -> Span>(x: Coordinate, f: F) -> Span
 
 // The least and the greatest doubled area of given heads and all 8 settings of the levels. The area is
 // xa·(yb - yc) + xb·(yc - ya) + xc·(ya - yb), of which each term has its least and its greatest at the ends of its level.
-fn at_heads(a: &Dipped, b: &Dipped, c: &Dipped, ya: i32, yb: i32, yc: i32) -> Span
-    ensures { IsSpan (λ pick. by_numbers dipped_numbers (at_heads pick) a.now b.now c.now ya yb yc) result }
+fn at_heads(a: &Dipped, b: &Dipped, c: &Dipped, ya: End, yb: End, yc: End) -> Span
+    ensures value { IsSpan (λ pick. by_numbers dipped_numbers (at_heads pick) a.now b.now c.now ya yb yc) result }
+    ensures least { result.least ≡ by_numbers dipped_numbers middle a.now b.now c.now ya yb yc -ℤ pos (by_numbers dipped_numbers reach a.now b.now c.now ya yb yc) }
+    ensures greatest { result.greatest ≡ by_numbers dipped_numbers middle a.now b.now c.now ya yb yc +ℤ pos (by_numbers dipped_numbers reach a.now b.now c.now ya yb yc) }
+    ensures least_small { unsigned_abs result.least ≤ 2 ^ 46 }
+    ensures greatest_small { unsigned_abs result.greatest ≤ 2 ^ 46 }
 {
     let first = Coordinate::level(a).spread(yb, yc);
     let second = Coordinate::level(b).spread(yc, ya);
@@ -39,14 +43,14 @@ fn at_heads(a: &Dipped, b: &Dipped, c: &Dipped, ya: i32, yb: i32, yc: i32) -> Sp
 }
 
 // Over both ends of the third head too.
-fn over_third(a: &Dipped, b: &Dipped, c: &Dipped, ya: i32, yb: i32) -> Span
+fn over_third(a: &Dipped, b: &Dipped, c: &Dipped, ya: End, yb: End) -> Span
     ensures { IsSpan (λ pick. by_numbers dipped_numbers (over_third pick) a.now b.now c.now ya yb) result }
 {
     over_ends(Coordinate::head(c), |yc| at_heads(a, b, c, ya, yb, yc))
 }
 
 // Over both ends of the second head too.
-fn over_second(a: &Dipped, b: &Dipped, c: &Dipped, ya: i32) -> Span
+fn over_second(a: &Dipped, b: &Dipped, c: &Dipped, ya: End) -> Span
     ensures { IsSpan (λ pick. by_numbers dipped_numbers (over_second pick) a.now b.now c.now ya) result }
 {
     over_ends(Coordinate::head(b), |yb| over_third(a, b, c, ya, yb))

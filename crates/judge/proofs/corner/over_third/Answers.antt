@@ -3,18 +3,15 @@ use Rattle.reading.specs.Makes.{dipped_numbers}
 use Rattle.judge.specs.Dips.{head, low, high}
 use Rattle.judge.specs.Corner.{at_heads, over_third}
 use Rattle.judge.specs.Spans.{IsSpan}
-use Rattle.judge.proofs.Sweeps.{low_fits, high_fits, swept_ends}
+use Rattle.judge.proofs.Sweeps.{swept_ends}
 use Rattle.judge.proofs.corner.over_third.Goals as goal
 
 pub returns : goal.returns
 unfolding over_third
 returns c =
     let x = head (dipped_numbers c.args.c.now) in
-    let ok = c.args.c.now.ok in
     let z = c.head.result in
     let e = c.over_ends.ensures in
-    let l = low_fits x z c.head.ensures ok.2 ok.3 in
-    let u = high_fits x z c.head.ensures ok.2 ok.3 in
     let at_low : IsSpan (λ pick. at_heads pick (dipped_numbers c.args.a.now) (dipped_numbers c.args.b.now) (dipped_numbers c.args.c.now) c.args.ya c.args.yb (low z)) e.0 = search rules in
     let at_high : IsSpan (λ pick. at_heads pick (dipped_numbers c.args.a.now) (dipped_numbers c.args.b.now) (dipped_numbers c.args.c.now) c.args.ya c.args.yb (high z)) e.1 = search rules in
     swept_ends x z c.head.ensures (λ pick. at_heads pick (dipped_numbers c.args.a.now) (dipped_numbers c.args.b.now) (dipped_numbers c.args.c.now) c.args.ya c.args.yb) e.0 e.1 c.over_ends.result at_low at_high e.4 e.5
