@@ -70,10 +70,16 @@ impl Steps {
         self.allowance.has_bits_of(self.difference.machine.abs())
     }
 
-    // The word of D and E in whole numbers.
+    // The word of D and E in whole numbers. Not by Word::of, with which the judge chooses its own.
     pub(crate) fn word(&self) -> Option<Word> {
         let d = self.difference.whole?;
         let e = self.allowance.whole?;
-        Some(Word::of(d.exceeds(e), d.negated().exceeds(e)))
+        Some(if d.exceeds(e) {
+            Word::Left
+        } else if d.negated().exceeds(e) {
+            Word::Right
+        } else {
+            Word::Undecided
+        })
     }
 }
