@@ -148,12 +148,21 @@ impl Difference {
         i64::from(self.centre) * i64::from(other.centre)
     }
 
+    // The centre, times a tolerance.
+    fn scaled(self, tolerance: u16) -> i64
+        ensures value { result ≡ self.0 *ℤ pos tolerance }
+        ensures magnitude { unsigned_abs result ≡ unsigned_abs self.0 * tolerance }
+        ensures small { unsigned_abs result ≤ 2 ^ 38 }
+    {
+        i64::from(self.centre) * i64::from(tolerance)
+    }
+
     // The magnitude of the centre, times a tolerance.
     fn magnified(self, tolerance: u16) -> i64
         ensures value { result ≡ pos (unsigned_abs self.0 * tolerance) }
         ensures small { unsigned_abs result ≤ 2 ^ 38 }
     {
-        i64::from(self.centre).abs() * i64::from(tolerance)
+        self.scaled(tolerance).abs()
     }
 
     // How far the product of two differences may lie from that of their centres.
